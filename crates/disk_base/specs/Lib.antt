@@ -1,0 +1,9 @@
+pub mod Disk
+pub mod FarmRacks
+pub mod Faults
+pub mod History
+pub mod Images
+pub mod Moments
+pub mod Places
+pub mod Racks
+pub mod Streams
