@@ -1,0 +1,14 @@
+mod Append
+mod Appending
+mod Appends
+mod Begin
+mod Chain
+mod Examples
+mod Fetch
+mod Follow
+mod InOrder
+mod Rest
+mod Starts
+mod Steps
+mod Torn
+mod Walk

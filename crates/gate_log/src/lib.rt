@@ -1,0 +1,24 @@
+//! An append-only log of byte strings in one file.
+//!
+//! What a file says is a definition over its bytes alone; a start answers it, an append adds its body to it,
+//! and a read gives the body at a place. A crash at any moment inside an append leaves a file that says the
+//! list without the body or with it at the end, and after Ok with it; inside a start, what it said before.
+//! Each error has its cause: `Fault` comes only where the file's count of faults rose in that call, and the
+//! others come exactly where the file's bytes, the body's length or the log's end say so.
+//!
+//! Public: `GateLog` with `over`, `start`, `append`, `read`, `first`, `end` and `into_file`; `LogFault`; the
+//! laws `nothing_counts_behind_a_closed_gate` and `the_gate_alone_adds_a_body`.
+#![tactic(auto)]
+
+mod device;
+mod fault;
+mod laws;
+mod log;
+mod record;
+mod start;
+#[cfg(test)]
+mod tests;
+
+pub use fault::LogFault;
+pub use laws::{nothing_counts_behind_a_closed_gate, the_gate_alone_adds_a_body};
+pub use log::GateLog;

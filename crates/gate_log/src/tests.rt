@@ -1,0 +1,208 @@
+//! Worked files, calls that fail, crashes, and files that were cut or changed.
+
+use crate::{GateLog, LogFault, nothing_counts_behind_a_closed_gate, the_gate_alone_adds_a_body};
+use disk_base::{Extent, MemFile};
+use std::alloc::Global;
+use std::test::Fail;
+
+/// A file with two bodies, `ab` and `c`.
+const TWO: [u8; 22] = *b"BLOBLOG1\x01\x00\x00\x00\x02ab\x01\x00\x00\x00\x01c\x00";
+
+/// What stands for a bad head where a number tells what a file says; a count of bodies stands for itself.
+const BAD_HEAD: u64 = 100;
+
+/// What stands for a bad chain, with the place added.
+const BAD_CHAIN: u64 = 200;
+
+/// A file with these bytes, all of them settled: it has made two calls.
+fn file_with(alloc: Global, bytes: &[u8], fails: &[u64]) -> Result<MemFile, Fail> {
+    let mut file = MemFile::new(alloc, fails.to_vec(alloc)?);
+    file.grow(bytes.len() as u64)?;
+    file.write_at(0, bytes)?;
+    file.sync()?;
+    Ok(file)
+}
+
+fn bytes_of(alloc: Global, file: &mut MemFile) -> Result<Vec<u8>, Fail> {
+    let mut bytes = vec![in alloc; 0u8; 64]?;
+    let count = file.read_at(0, &mut bytes)?;
+    bytes.truncate(count);
+    Ok(bytes)
+}
+
+/// How many bodies a started log has, read from its first place to its end.
+fn count_bodies(alloc: Global, log: &mut GateLog<MemFile>) -> Result<u64, Fail> {
+    let mut place = log.first();
+    for count in 0..9 {
+        if log.end() == Some(place) {
+            return Ok(count);
+        }
+        let (_body, next) = log.read(alloc, place)?;
+        place = next;
+    }
+    Ok(u64::MAX)
+}
+
+/// What a start says of a file, as one number.
+fn says(alloc: Global, file: MemFile) -> Result<u64, Fail> {
+    let mut log = GateLog::over(file);
+    match log.start() {
+        Ok(()) => count_bodies(alloc, &mut log),
+        Err(LogFault::BadHead) => Ok(BAD_HEAD),
+        Err(LogFault::BadChain { place }) => Ok(BAD_CHAIN.saturating_add(place)),
+        Err(_) => Ok(u64::MAX),
+    }
+}
+
+#[test]
+fn a_log_begins_and_grows(rt: HostRuntime) -> Result<(), Fail> {
+    let alloc = rt.alloc();
+    let mut log = GateLog::over(MemFile::new(alloc, Vec::new(alloc)));
+    assert_eq!(rt; (log.first(), log.end()), (8, None));
+    assert!(rt; matches!(log.append(alloc, b"ab"), Err(LogFault::Shut)));
+    assert!(rt; matches!(log.read(alloc, 8), Err(LogFault::Shut)));
+    log.start()?;
+    assert!(rt; matches!(log.append(alloc, b""), Err(LogFault::BadLength { len: 0 })));
+    assert_eq!(rt; log.end(), Some(8));
+    assert_eq!(rt; log.append(alloc, b"ab")?, 8);
+    assert_eq!(rt; log.end(), Some(15));
+    let (body, next) = log.read(alloc, 8)?;
+    assert_eq!(rt; (body.as_slice(), next), (b"ab".as_slice(), 15));
+    for place in [0, 9, 13, 15, 99] {
+        let refused = match log.read(alloc, place) {
+            Err(LogFault::BadChain { place: told }) => told == place,
+            _ => false,
+        };
+        assert!(rt; refused, "at {place}");
+    }
+    let mut file = log.into_file();
+    assert_eq!(rt;
+        bytes_of(alloc, &mut file)?.as_slice(),
+        b"BLOBLOG1\x01\x00\x00\x00\x02ab\x00".as_slice()
+    );
+    let mut empty = GateLog::over(MemFile::new(alloc, Vec::new(alloc)));
+    empty.start()?;
+    let mut file = empty.into_file();
+    assert_eq!(rt;
+        bytes_of(alloc, &mut file)?.as_slice(),
+        b"BLOBLOG1\x00".as_slice()
+    );
+    Ok(())
+}
+
+/// A log over an empty file whose call of this number fails: that of its first append.
+fn failed_append(alloc: Global, call: u64) -> Result<GateLog<MemFile>, Fail> {
+    let mut log = GateLog::over(MemFile::new(alloc, [call].to_vec(alloc)?));
+    log.start()?;
+    match log.append(alloc, b"ab") {
+        Err(LogFault::Fault) => Ok(log),
+        _ => Err(Fail::from(LogFault::Shut)),
+    }
+}
+
+/// Which of three calls were answered Ok, over a file whose call of this number fails.
+fn answered(alloc: Global, call: u64) -> Result<(bool, bool, bool), Fail> {
+    let mut log = GateLog::over(MemFile::new(alloc, [call].to_vec(alloc)?));
+    let started = log.start().is_ok();
+    let first = log.append(alloc, b"ab").is_ok();
+    let second = log.append(alloc, b"c").is_ok();
+    Ok((started, first, second))
+}
+
+#[test]
+fn a_failed_call_and_a_crash_leave_before_or_after(rt: HostRuntime) -> Result<(), Fail> {
+    let alloc = rt.alloc();
+    // The start of an empty file makes 4 calls, and an append 4 more. After each that fails, the file
+    // stands for the list before the append or after it, as it is and after a crash.
+    let rows = [
+        (5, 0, [0, 0, 0]),
+        (6, 0, [0, 0, 0]),
+        (7, 1, [0, 1, 0]),
+        (8, 1, [0, 1, 0]),
+    ];
+    for (call, as_it_is, wants) in rows {
+        for (choice, want) in [0u8, 1, 7].into_iter().zip(wants) {
+            let crashed = failed_append(alloc, call)?.into_file().crash(&[choice; 7]);
+            assert_eq!(rt; says(alloc, crashed)?, want, "call {call}, gate {choice}");
+        }
+        let mut log = failed_append(alloc, call)?;
+        assert_eq!(rt; log.end(), None);
+        assert!(rt; matches!(log.append(alloc, b"ab"), Err(LogFault::Shut)));
+        log.start()?;
+        assert_eq!(rt; count_bodies(alloc, &mut log)?, as_it_is, "call {call}");
+    }
+    // The ninth call is the first of the second append.
+    for call in 1..=9 {
+        assert_eq!(rt;
+            answered(alloc, call)?,
+            (call > 4, call > 8, false),
+            "call {call}"
+        );
+    }
+    Ok(())
+}
+
+#[test]
+fn a_file_that_was_cut_or_changed_is_told(rt: HostRuntime) -> Result<(), Fail> {
+    let alloc = rt.alloc();
+    assert_eq!(rt; says(alloc, file_with(alloc, &[0; 10], &[])?)?, BAD_HEAD);
+    let cuts = [
+        0, 0, 0, 0, 0, 0, 0, 0, 0, 0, 208, 208, 208, 208, 208, 1, 215, 215, 215, 215, 215, 2, 2,
+    ];
+    for (len, want) in cuts.into_iter().enumerate() {
+        let file = file_with(alloc, &TWO[..len.min(22)], &[])?;
+        assert_eq!(rt; says(alloc, file)?, want, "cut to {len}");
+    }
+    // For each place, what the file says where a bit is changed there: the lowest three, and the others.
+    let rows: [(usize, usize, [u64; 4]); 9] = [
+        (0, 8, [100; 4]),
+        (8, 9, [0; 4]),
+        (9, 12, [208; 4]),
+        (12, 13, [1, 208, 219, 208]),
+        (13, 15, [2; 4]),
+        (15, 16, [1; 4]),
+        (16, 20, [215; 4]),
+        (20, 21, [2; 4]),
+        (21, 22, [221, 2, 2, 2]),
+    ];
+    for (from, to, wants) in rows {
+        for place in from..to.min(22) {
+            for bit in 0..8u8 {
+                let mut bytes = TWO;
+                bytes[place] ^= 1 << bit;
+                let want = wants[usize::from(bit.min(3))];
+                assert_eq!(rt;
+                    says(alloc, file_with(alloc, &bytes, &[])?)?,
+                    want,
+                    "bit {bit} at {place}"
+                );
+            }
+        }
+    }
+    Ok(())
+}
+
+/// Whether a log starts over the front of the worked file, where this call of the start fails.
+fn starts(alloc: Global, len: usize, call: u64) -> Result<bool, Fail> {
+    let file = file_with(alloc, &TWO[..len.min(22)], &[call.saturating_add(2)])?;
+    Ok(GateLog::over(file).start().is_ok())
+}
+
+#[test]
+fn a_start_makes_few_calls(rt: HostRuntime) -> Result<(), Fail> {
+    let alloc = rt.alloc();
+    nothing_counts_behind_a_closed_gate();
+    the_gate_alone_adds_a_body();
+    // It settles, asks for the length, and reads the mark and the three gates of two records. Over a file
+    // that ends with its chain it reads two gates, writes one and settles it.
+    for (len, calls) in [(22, 6), (21, 7)] {
+        for call in 1..=9 {
+            assert_eq!(rt;
+                starts(alloc, len, call)?,
+                call > calls,
+                "call {call} at {len}"
+            );
+        }
+    }
+    Ok(())
+}
