@@ -1,0 +1,4 @@
+pub mod Crc
+pub mod Reading
+pub mod Rows
+pub mod Spelling
