@@ -1,0 +1,7 @@
+pub mod AnyShards
+pub mod Cutting
+pub mod Joins
+pub mod Numbers
+pub mod PayloadLemmas
+pub mod Pieces
+pub mod Stripes
