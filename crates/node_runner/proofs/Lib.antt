@@ -1,0 +1,11 @@
+pub mod Gains
+pub mod LineCuts
+pub mod LineSteps
+pub mod Lines
+pub mod ModeNames
+pub mod Numerals
+pub mod Objects
+pub mod RunSteps
+pub mod SessionLaws
+pub mod StripeLemmas
+pub mod WordCuts

@@ -1,0 +1,14 @@
+use Rattle.std.proofs.Common.{◌≡◌, ◌∙◌, ap, drop, arith}
+use Rattle.node_runner.proofs.LineCuts.{feed_at, feed_behind, no_end_at}
+use Rattle.node_runner.proofs.feed.Buffer.gather.Goals as goal
+
+pub invariant_of-self-2-clause-no_end : goal.invariant_of-self-2-clause-no_end
+invariant_of-self-2-clause-no_end c =
+    no_end_at c.args.self.now.line.items c.behind-rest.result.now _ c.line_end-end.result c.in_ok-extend_from_slice.ensures.items c.line_end-end.ensures.value c.args.self.now.no_end
+
+pub returns-then-end-len-clause-too_long : goal.returns-then-end-len-clause-too_long
+returns-then-end-len-clause-too_long c =
+    let s = c.args.self.now in
+    let rest = drop s.at s.piece.items in
+    let end : c.line_end-end.result ≡ feed_at rest = c.line_end-end.ensures.value ∙ ap feed_at (c.behind-rest.ensures ∙ ap (λ bytes. drop s.at bytes) c.deref.ensures.value) in
+    λ _. omega (arith, feed_behind s.line.items rest s.no_end, end)

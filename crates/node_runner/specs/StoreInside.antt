@@ -1,0 +1,7 @@
+-- How the fields of a store stand for the state of a session.
+use Rattle.node_runner.specs.Session.{State}
+use Rattle.node_runner.specs.Kept.{objects_in, mode_in}
+use Rattle.node_runner.specs.declared.store.Store.TheInside.{Inside}
+
+abbrev pub state_of : Inside → State
+state_of inside = record { disks = inside.disks; volume = mode_in inside.volume; objects = objects_in inside.volume }
