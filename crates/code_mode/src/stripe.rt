@@ -1,6 +1,6 @@
 //! The shards of a blob.
 
-ghost use Rattle.std.specs.Prelude.{ℕ, List, Option, All, ◌≡◌, ◌-◌, ◌<◌, ◌≤◌, ◌++◌, length, take, drop, set, replicate, Some, None, IfOk, IfSome, OnOk};
+ghost use Rattle.std.specs.Prelude.{ℕ, List, Option, All, ◌≡◌, ◌-◌, ◌<◌, ◌≤◌, ◌++◌, length, take, drop, set, replicate, Some, None, IfOk, IfSome, OnErr, OnOk};
 ghost use Rattle.std.specs.List.{concat};
 ghost use Rattle.rs_code.specs.Shards.{shard_at, size_of};
 ghost use Rattle.rs_code.specs.ShardValue.{rebuilt, filled};
@@ -30,12 +30,14 @@ fn padded_part(alloc: Global, blob: &[u8], start: usize, size: usize) -> Result<
     Ok(bytes)
 }
 
-/// Adds a shard of the common length at a free index, which fails for want of memory alone.
+/// Adds a shard of the common length at a free index. It fails only where the memory is out, and the
+/// shards are then as they were.
 pub fn hold(shards: &mut Shards, index: usize, bytes: Bytes) -> Result<(), NoMemory>
     requires within { index < length shards.old }
     requires free { shard_at shards.old index ≡ None }
     requires even { IfSome (size_of shards.old) (λ size. size ≡ length bytes) }
-    ensures { OnOk result (shards.new ≡ set shards.old index (Some bytes)) }
+    ensures ok { OnOk result (shards.new ≡ set shards.old index (Some bytes)) }
+    ensures err { OnErr result (shards.new ≡ shards.old) }
 {
     match shards.add(index, bytes) {
         Ok(()) => Ok(()),

@@ -69,6 +69,7 @@ impl Coder {
     pub fn new(alloc: Global, n: usize, m: usize, cached: usize) -> Result<Coder, CodeFault>
         ensures ok { IfOk result (λ coder. coder ≡ record { data_shards = n; parity_shards = m }) }
         ensures bad_shape { IsErrOf result CodeFault.BadShape ↔ ((n ≡ 0) ⊎ (cached ≡ 0) ⊎ (256 < n + m)) }
+        ensures asks_for_no_shards { (have : ℕ) → IsErrOf result (CodeFault.TooFew have) → ⊥ }
     {
         if n == 0 || cached == 0 || n > 256 || m > 256 - n {
             return Err(CodeFault::BadShape);

@@ -22,7 +22,7 @@ loop-index-preserved c =
     let blob = c.args.blob.now in
     let k = c.loop-index.index in
     let piece = copied_piece mode blob k c.shard_size-size.result _ (omega arith) c.shard_size-size.ensures (c.from_vec.ensures ∙ c.in_ok-piece.ensures) in
-    cut_more mode blob k c.loop-index.shards c.hold.new.shards _ (omega arith) c.loop-index.invariant piece c.in_ok-hold.ensures
+    cut_more mode blob k c.loop-index.shards c.hold.new.shards _ (omega arith) c.loop-index.invariant piece c.in_ok-hold.ensures.ok
 
 pub returns-clause-pieces : goal.returns-clause-pieces
 returns-clause-pieces c =

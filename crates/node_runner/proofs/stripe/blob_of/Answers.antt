@@ -44,7 +44,7 @@ pieces-preserved c =
     c.in_ok-piece.ensures.rebuilt ∙ ap (λ s. rebuilt s.data_shards c.args.shards.now c.pieces.index) c.pieces.invariant.coder
     ∙ law.rebuilt mode blob c.args.shards.now c.pieces.index c.requires.stripe.are_bytes enough (omega arith) in
     record {
-      below = below_more mode blob c.pieces.index c.pieces.found c.hold.new.shards c.in_ok-piece.piece c.pieces.invariant.below (omega arith) piece c.in_ok-hold.ensures;
+      below = below_more mode blob c.pieces.index c.pieces.found c.hold.new.shards c.in_ok-piece.piece c.pieces.invariant.below (omega arith) piece c.in_ok-hold.ensures.ok;
       coder = c.in_ok-piece.ensures.shape ∙ c.pieces.invariant.coder;
     }
 
