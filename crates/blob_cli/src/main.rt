@@ -22,7 +22,7 @@ fn words_of(rt: &HostRuntime) -> io::Result<Vec<String>> {
     Ok(words)
 }
 
-/// How a run ends whose words could not be had: for want of memory, or since they are no text.
+/// How a run ends whose words could not be had: out of memory, or since they are no text.
 fn without_words(error: &io::Error) -> Outcome {
     let status = if error.kind() == io::ErrorKind::OutOfMemory {
         5

@@ -20,11 +20,7 @@ impl<R: Read> ReaderSource<R> {
 }
 
 impl<R: Read> Source for ReaderSource<R> {
-    ghost left = { λ _. None };
-
-    ghost source_faults = { λ source. source.faults };
-
-    ghost source_is_quiet = { λ _. false };
+    ghost seen = { λ source. record { left = None; faults = source.faults; is_quiet = false } };
 
     fn pull(&mut self, out: &mut [u8]) -> Result<usize, Failed> {
         match self.reader.read(out) {
@@ -69,11 +65,7 @@ impl<W: Write> WriterSink<W> {
 }
 
 impl<W: Write> Sink for WriterSink<W> {
-    ghost held = { λ _. None };
-
-    ghost sink_faults = { λ sink. sink.faults };
-
-    ghost is_handed_on = { λ sink. sink.is_handed_on };
+    ghost seen = { λ sink. record { held = None; faults = sink.faults; is_handed_on = sink.is_handed_on } };
 
     fn push(&mut self, bytes: &[u8]) -> Result<usize, Failed> {
         match self.writer.write(bytes) {

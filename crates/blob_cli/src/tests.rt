@@ -4,6 +4,7 @@ use crate::report::Report;
 use crate::streams::{ReaderSource, WriterSink};
 use disk_base::{Sink, Source};
 use node_runner::Outcome;
+use std::io::{self, Write};
 use std::test::Fail;
 
 #[test]
@@ -41,14 +42,51 @@ fn a_reader_is_a_source(rt: HostRuntime) -> Result<(), Fail> {
     Ok(())
 }
 
+/// A writer that takes few bytes at a time and counts them, and counts how often it was flushed.
+#[derive(Drop)]
+struct Meter {
+    most: usize,
+    taken: usize,
+    flushes: usize,
+}
+
+impl Write for Meter {
+    fn write(&mut self, bytes: &[u8]) -> io::Result<usize> {
+        let count = bytes.len().min(self.most);
+        self.taken = self.taken.saturating_add(count);
+        Ok(count)
+    }
+
+    fn flush(&mut self) -> io::Result<()> {
+        self.flushes = self.flushes.saturating_add(1);
+        Ok(())
+    }
+}
+
 #[test]
 fn a_writer_is_a_sink(rt: HostRuntime) -> Result<(), Fail> {
-    let mut sink = WriterSink::new(Vec::new(rt.alloc()));
-    let pushed = sink.push(b"ab");
-    assert!(rt; matches!(pushed, Ok(2)));
-    let pushed = sink.push(b"c");
-    assert!(rt; matches!(pushed, Ok(1)));
+    let mut sink = WriterSink::new(Meter {
+        most: 2,
+        taken: 0,
+        flushes: 0,
+    });
+    for (text, count) in [("abc", 2), ("c", 1), ("abcdef", 2)] {
+        let pushed = sink.push(text.as_bytes());
+        assert!(rt; matches!(pushed, Ok(n) if n == count), "{text}");
+    }
     assert!(rt; sink.finish().is_ok());
-    assert_eq!(rt; sink.into_writer().as_slice(), b"abc".as_slice());
+    let meter = sink.into_writer();
+    assert_eq!(rt; (meter.taken, meter.flushes), (5, 1));
+    Ok(())
+}
+
+#[test]
+fn a_writer_that_takes_nothing_has_failed(rt: HostRuntime) -> Result<(), Fail> {
+    let mut sink = WriterSink::new(Meter {
+        most: 0,
+        taken: 0,
+        flushes: 0,
+    });
+    assert!(rt; sink.push(b"a").is_err());
     Ok(())
 }

@@ -1,7 +1,13 @@
 mod Choices
+mod FarmLaws
 mod Misreads
 mod Overwrites
-mod RackLaws
+mod PlaceLaws
+mod Retained
+mod ShelfLaws
+mod SlotLaws
 mod Steps
+mod SwitchOrder
 mod Torn
 mod Undo
+mod Views

@@ -10,8 +10,8 @@ use Rattle.disk_base.specs.History.{written_in, past_of}
 use Rattle.disk_base.proofs.Undo.{past_of-pushed}
 
 -- a file as its fields show it
-abbrev pub seen : Plan → Option (List ℕ) → List ℕ → ℕ → List Change → List ℕ → ℕ → ℕ → FileState
-seen plan lies bytes settled_end changes replaced room spare = record {
+abbrev pub fields_shown : Plan → Option (List ℕ) → List ℕ → ℕ → List Change → List ℕ → ℕ → ℕ → FileState
+fields_shown plan lies bytes settled_end changes replaced room spare = record {
   plan = plan;
   lies = lies;
   present = record { bytes = bytes; settled_end = settled_end; written = written_in (reverse changes) };
@@ -25,8 +25,8 @@ written_in-write changes at count end = ap written_in (reverse-append changes (W
 
 pub wrote : (plan : Plan) (lies : Option (List ℕ)) (b w replaced : List ℕ) (changes : List Change) (settled_end room spare at : ℕ) →
     let start = min at (length b) in
-    seen (after_call (fails_next plan) plan) lies (overwritten b start w) settled_end (changes ++ Write start (length w) (length b) ∷ []) (replaced ++ take (length w) (drop start b)) room (spare - 1)
-    ≡ after_write at w (seen plan lies b settled_end changes replaced room spare)
+    fields_shown (after_call (fails_next plan) plan) lies (overwritten b start w) settled_end (changes ++ Write start (length w) (length b) ∷ []) (replaced ++ take (length w) (drop start b)) room (spare - 1)
+    ≡ after_write at w (fields_shown plan lies b settled_end changes replaced room spare)
 wrote plan lies b w replaced changes settled_end room spare at =
     let start = min at (length b) in
     let written = written_in-write changes start (length w) (length b) in
@@ -42,10 +42,10 @@ wrote plan lies b w replaced changes settled_end room spare at =
 
 pub wrote_by : (plan new_plan : Plan) (lies : Option (List ℕ)) (b new_b w replaced new_replaced : List ℕ) (changes new_changes : List Change) (settled_end room spare at start : ℕ) →
     new_plan ≡ after_call (fails_next plan) plan → start ≡ min at (length b) → new_b ≡ overwritten b start w → new_replaced ≡ replaced ++ take (length w) (drop start b) → new_changes ≡ changes ++ Write start (length w) (length b) ∷ [] →
-    seen new_plan lies new_b settled_end new_changes new_replaced room (spare - 1) ≡ after_write at w (seen plan lies b settled_end changes replaced room spare)
+    fields_shown new_plan lies new_b settled_end new_changes new_replaced room (spare - 1) ≡ after_write at w (fields_shown plan lies b settled_end changes replaced room spare)
 wrote_by plan new_plan lies b new_b w replaced new_replaced changes new_changes settled_end room spare at start plan_is start_is b_is replaced_is changes_is =
     let bytes = b_is ∙ ap (λ (s : ℕ). overwritten b s w) start_is in
     let kept = replaced_is ∙ ap (λ (s : ℕ). replaced ++ take (length w) (drop s b)) start_is in
     let log = changes_is ∙ ap (λ (s : ℕ). changes ++ Write s (length w) (length b) ∷ []) start_is in
-    (λ i. seen (plan_is i) lies (bytes i) settled_end (log i) (kept i) room (spare - 1))
+    (λ i. fields_shown (plan_is i) lies (bytes i) settled_end (log i) (kept i) room (spare - 1))
     ∙ wrote plan lies b w replaced changes settled_end room spare at

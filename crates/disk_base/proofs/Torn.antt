@@ -6,7 +6,7 @@ use Rattle.std.proofs.lemmas.Grind.{same_number_lists}
 use Rattle.std.proofs.lemmas.List.{length-take, length-take-le, take_at, drop_at, take_all, drop_all, take-take, get_or_past}
 use Rattle.std.proofs.lemmas.Bool.Decides.{nat_tests}
 use Rattle.disk_base.specs.Disk.{overwritten, IsTorn, IsWithin, LeavesExactly, TearsFrom, GoesOn}
-use Rattle.disk_base.specs.Images.{Epoch, IsImage, is_settled, UnlessLying, told, FileState, content_of, moment_of, MayLeave, LeftSince, IsImageOfSome, settled_epoch, after_write, after_sync, counted}
+use Rattle.disk_base.specs.Images.{Epoch, IsImage, is_settled, UnlessLying, told, FileState, content_of, moment_of, MayLeave, IsImageOfSome, settled_epoch, after_write, after_sync, counted, view_of}
 use Rattle.disk_base.proofs.Overwrites.{length-overwritten, before, inside, behind}
 
 -- ---- the bytes
@@ -200,7 +200,7 @@ onward None P Q R f (inr r) = inr r
 onward (Some lies) P Q R f is = tt
 
 pub write-goes_on : (file : FileState) (at : ℕ) (w : List ℕ) → file.present.settled_end ≤ length file.present.bytes →
-    GoesOn (moment_of file) (moment_of (after_write at w file)) (LeftSince file) (LeftSince (after_write at w file)) (MayLeave (after_write at w file))
+    GoesOn (view_of file) (view_of (after_write at w file))
 write-goes_on file at w settled_within =
     let e = file.present in
     let s = min at (length e.bytes) in
@@ -220,7 +220,7 @@ sync_either None P Q R (inl p) = inr p
 sync_either None P Q R (inr past) = inl past
 sync_either (Some lies) P Q R is = inl tt
 
-pub sync-goes_on : (file : FileState) → GoesOn (moment_of file) (moment_of (after_sync file)) (LeftSince file) (LeftSince (after_sync file)) (MayLeave (after_sync file))
+pub sync-goes_on : (file : FileState) → GoesOn (view_of file) (view_of (after_sync file))
 sync-goes_on file =
     let e = file.present in
     let new = (after_sync file).present in
@@ -234,20 +234,14 @@ sync-goes_on file =
           (lifted file.lies (IsImage e c ⊎ IsImageOfSome (take (moment_of file - t) file.past) c) (IsImage new c ⊎ (IsImage e c ⊎ IsImageOfSome (take (moment_of file - t) file.past) c)) (λ left. inr left) is);
     }
 
-pub still-goes_on : (file : FileState) → GoesOn (moment_of file) (moment_of (counted file)) (LeftSince file) (LeftSince (counted file)) (MayLeave (counted file))
+pub still-goes_on : (file : FileState) → GoesOn (view_of file) (view_of (counted file))
 still-goes_on file = record { never_falls = omega arith; since_then = λ t c le is. inl is; stays = λ t c le is. is }
-
--- a sync, by its answer
-pub answered-goes_on : {T E : Type 0} (result : Result T E) (old later : FileState) → OnOk result (later ≡ after_sync old) → OnErr result (later ≡ counted old) →
-    GoesOn (moment_of old) (moment_of later) (LeftSince old) (LeftSince later) (MayLeave later)
-answered-goes_on (Ok x) old later ok err = subst (λ f. GoesOn (moment_of old) (moment_of f) (LeftSince old) (LeftSince f) (MayLeave f)) (sym ok) (sync-goes_on old)
-answered-goes_on (Err x) old later ok err = subst (λ f. GoesOn (moment_of old) (moment_of f) (LeftSince old) (LeftSince f) (MayLeave f)) (sym err) (still-goes_on old)
 
 pub on_error : {T E : Type 0} (result : Result T E) (P : Type 0) → P → OnErr result P
 on_error (Ok _) P p = tt
 on_error (Err _) P p = p
 
-only_bytes : (bytes c : List ℕ) → IsImage (settled_epoch bytes) c → c ≡ bytes
+pub only_bytes : (bytes c : List ℕ) → IsImage (settled_epoch bytes) c → c ≡ bytes
 only_bytes bytes c image = same_number_lists c bytes (omega (arith, image.no_shorter, image.no_longer)) (λ k h. image.stays k (within k (omega (arith, h, image.no_longer))))
   where
     within : (k : ℕ) → k < length bytes → is_settled (settled_epoch bytes) k ≡ true

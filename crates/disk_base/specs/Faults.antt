@@ -1,11 +1,15 @@
 -- How often an object has failed, and what that count has to do with the answers of its calls.
-use Rattle.std.specs.Prelude.{◌≡◌, true, ℕ, ◌+◌, ◌-◌, ◌/◌, ◌%◌, ◌^◌, ◌≤◌, min, Bool, nat_lt, map, if◌then◌else◌, List, length, ◌==◌, ◌&&◌, Result, OnErr}
+use Rattle.std.specs.Prelude.{◌≡◌, true, ℕ, ◌+◌, ◌-◌, ◌/◌, ◌%◌, ◌^◌, ◌≤◌, min, max, Bool, nat_lt, map, if◌then◌else◌, List, length, ◌==◌, ◌&&◌, Result, OnErr}
 use Rattle.std.specs.List.{list_any, filter}
 use Rattle.std.proofs.lemmas.Bool.{and_parts, eqb-true}
 
--- one more, in a count of 64 bits that stops at its last number
+-- a count and so many more, in 64 bits: it stops at its last number and never falls
+abbrev pub added : ℕ → ℕ → ℕ
+added a b = max a (min (a + b) (2 ^ 64 - 1))
+
+-- one more
 abbrev pub one_more : ℕ → ℕ
-one_more n = min (n + 1) (2 ^ 64 - 1)
+one_more n = added n 1
 
 -- the count rose; at its last number it counts as risen
 abbrev pub Rose : ℕ → ℕ → Type 0
@@ -39,10 +43,6 @@ fails_next plan = nat_lt plan.made plan.reach && list_any (λ call. call == (pla
 -- the numbers that belong to this part, as they count there: n is part * size and its number there
 abbrev pub part_of : ℕ → ℕ → List ℕ → List ℕ
 part_of size part fails = map (λ n. n % size) (filter (λ n. n / size == part) fails)
-
--- two counts of faults together
-abbrev pub added : ℕ → ℕ → ℕ
-added a b = min (a + b) (2 ^ 64 - 1)
 
 -- the plan after one more call, which failed or didn't
 abbrev pub after_call : Bool → Plan → Plan

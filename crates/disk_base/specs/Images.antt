@@ -1,10 +1,10 @@
 -- A file in memory: what was written since its last sync, what it held at each sync before, and what a crash leaves.
-use Rattle.std.specs.Prelude.{◌≡◌, ◌⊎◌, ℕ, ◌+◌, ◌-◌, ◌≤◌, min, Bool, true, not, ◌&&◌, nat_lt, nat_le, if◌then◌else◌, List, [], ◌∷◌, length, take, drop, slice_index, Option, Some, None, bit_xor, ◌==◌}
+use Rattle.std.specs.Prelude.{◌≡◌, ◌⊎◌, ℕ, ◌+◌, ◌-◌, ◌≤◌, min, max, Bool, true, not, ◌&&◌, nat_lt, nat_le, if◌then◌else◌, List, [], ◌∷◌, length, take, drop, slice_index, Option, Some, None, bit_xor, ◌==◌}
 use Rattle.std.specs.List.{list_any}
 use Rattle.std.specs.Prelude.{IfSome, refl}
 use Rattle.std.proofs.Common.{inl, inr, subst, arith}
-use Rattle.disk_base.specs.Faults.{Plan, unused, fails_next, after_call}
-use Rattle.disk_base.specs.Disk.{overwritten}
+use Rattle.disk_base.specs.Faults.{Plan, unused, fails_next, after_call, is_quiet, quiet_is_zero}
+use Rattle.disk_base.specs.Disk.{overwritten, ample_spare, FileView, IsFile}
 
 -- a range of bytes that was written
 pub record Range : Type 0 where
@@ -96,6 +96,10 @@ settled_epoch bytes = record { bytes = bytes; settled_end = length bytes; writte
 abbrev pub empty_file : List ℕ → Option (List ℕ) → FileState
 empty_file fails lies = record { plan = unused fails; lies = lies; present = settled_epoch []; past = []; room = 0; spare = 0 }
 
+-- room up to an end, and spare
+abbrev pub after_grow : ℕ → FileState → FileState
+after_grow end file = record file { room = max file.room end; spare = ample_spare }
+
 -- one more call was counted
 abbrev pub counted : FileState → FileState
 counted file = record file { plan = after_call (fails_next file.plan) file.plan }
@@ -125,22 +129,33 @@ after_sync file = record (counted file) {
 abbrev pub after_crash : List ℕ → FileState → FileState
 after_crash choice file = record file { present = settled_epoch (chosen file.present 0 file.present.bytes choice); past = [] }
 
--- ---- laws of the clock
+-- ---- a file in memory as a file
+
+abbrev pub view_of : FileState → FileView
+view_of file = record {
+  content = content_of file;
+  images = MayLeave file;
+  clock = moment_of file;
+  images_since = LeftSince file;
+  room = file.room;
+  spare = file.spare;
+  calls = file.plan.made;
+  faults = file.plan.faults;
+  is_quiet = is_quiet file.plan;
+}
 
 tells_image : (lies : Option (List ℕ)) (epoch : Epoch) → IfSome (told lies epoch.bytes) (λ c. UnlessLying lies (IsImage epoch c))
 tells_image None epoch = record { no_shorter = omega arith; no_longer = omega arith; stays = λ place settled. refl }
 tells_image (Some lies) epoch = tt
 
--- a crash may leave what a read gives
-pub content_is_image : (file : FileState) → IfSome (content_of file) (MayLeave file)
+content_is_image : (file : FileState) → IfSome (content_of file) (MayLeave file)
 content_is_image file = tells_image file.lies file.present
 
 counts : (lies : Option (List ℕ)) (P Q : Type 0) → UnlessLying lies P → UnlessLying lies (P ⊎ Q)
 counts None P Q is = inl is
 counts (Some lies) P Q is = tt
 
--- the present moment is one of those since an earlier one
-pub present_counts : (file : FileState) (t : ℕ) (c : List ℕ) → t ≤ moment_of file → MayLeave file c → LeftSince file t c
+present_counts : (file : FileState) (t : ℕ) (c : List ℕ) → t ≤ moment_of file → MayLeave file c → LeftSince file t c
 present_counts file t c earlier is = counts file.lies (IsImage file.present c) (IsImageOfSome (take (moment_of file - t) file.past) c) is
 
 none_since : (epochs : List Epoch) (n : ℕ) (c : List ℕ) → n ≡ 0 → IsImageOfSome (take n epochs) c → ⊥
@@ -151,6 +166,14 @@ alone None P Q never (inl is) = is
 alone None P Q never (inr is) = absurd (never is)
 alone (Some lies) P Q never is = tt
 
--- since the present moment there is no other
-pub present_alone : (file : FileState) (c : List ℕ) → LeftSince file (moment_of file) c → MayLeave file c
+present_alone : (file : FileState) (c : List ℕ) → LeftSince file (moment_of file) c → MayLeave file c
 present_alone file c is = alone file.lies (IsImage file.present c) (IsImageOfSome (take (moment_of file - moment_of file) file.past) c) (none_since file.past (moment_of file - moment_of file) c (omega arith)) is
+
+-- what is true of every file is true of it
+pub is_file : (file : FileState) → IsFile (view_of file)
+is_file file = record {
+  content_is_image = content_is_image file;
+  present_counts = present_counts file;
+  present_alone = present_alone file;
+  quiet_has_no_fault = quiet_is_zero file.plan;
+}

@@ -1,9 +1,12 @@
 pub mod Disk
 pub mod FarmRacks
+pub mod Farms
 pub mod Faults
 pub mod History
 pub mod Images
+pub mod JointMoments
 pub mod Moments
 pub mod Places
 pub mod Racks
+pub mod Shelves
 pub mod Streams

@@ -1,38 +1,43 @@
--- What was handed out under which name, and what was taken back.
-use Rattle.std.specs.Prelude.{◌≡◌, ℕ, Bool, true, false}
+-- What is known under a name: the files of a shelf, the shelves of a farm.
+use Rattle.std.specs.Prelude.{◌≡◌, Bool, true, false, Option, Some, None}
 
--- the place of a name: nothing was ever handed out under it, it is out now, or this was taken back
+-- Nothing is known; there is nothing; there is something, of which no more is told here; or this is there, at rest.
 pub data Place (T : Type 0) : Type 0 where
-  Never : Place T
-  Out : Place T
+  Unknown : Place T
+  Absent : Place T
+  Away : Place T
   Kept : T → Place T
 
-abbrev pub is_out : {T : Type 0} → Place T → Bool
-is_out Out = true
-is_out _ = false
+-- whether there is something, where that is known
+abbrev pub is_there : {T : Type 0} → Place T → Option Bool
+is_there Unknown = None
+is_there Absent = Some false
+is_there Away = Some true
+is_there (Kept x) = Some true
 
-abbrev pub is_never : {T : Type 0} → Place T → Bool
-is_never Never = true
-is_never _ = false
+-- there is nothing, or what there is is known
+abbrev pub IsTold : {T : Type 0} → Place T → Type 0
+IsTold Absent = Unit {0}
+IsTold (Kept x) = Unit {0}
+IsTold _ = ⊥
 
--- the one name has this place now, and every other name has the place that it had
-pub record Moves {T : Type 0} (name : ℕ) (place : Place T) (old new : ℕ → Place T) : Type 0 where
-  pub moved : new name ≡ place
-  pub others : (n : ℕ) → (n ≡ name → ⊥) → new n ≡ old n
+-- what was known stays
+abbrev pub Keeps : {T : Type 0} → Place T → Place T → Type 0
+Keeps Unknown new = Unit {0}
+Keeps old new = new ≡ old
 
--- each name has the place that it had
-abbrev pub AllStay : {T : Type 0} → (ℕ → Place T) → (ℕ → Place T) → Type 0
-AllStay old new = (n : ℕ) → new n ≡ old n
+-- a fact on what is kept there
+abbrev pub IfKept : {T : Type 0} → Place T → (T → Type 0) → Type 0
+IfKept (Kept x) P = P x
+IfKept _ P = Unit {0}
 
--- the same for places that two numbers name
-pub record MovesAt {T : Type 0} (a b : ℕ) (place : Place T) (old new : ℕ → ℕ → Place T) : Type 0 where
-  pub moved : new a b ≡ place
-  pub others : (m n : ℕ) → (m ≡ a → n ≡ b → ⊥) → new m n ≡ old m n
+-- The place that a slot stands for: there is no slot, its content is out, or it is there.
+abbrev pub place_of : {T : Type 0} → Option (Option T) → Place T
+place_of None = Absent
+place_of (Some None) = Away
+place_of (Some (Some x)) = Kept x
 
-abbrev pub AllStayAt : {T : Type 0} → (ℕ → ℕ → Place T) → (ℕ → ℕ → Place T) → Type 0
-AllStayAt old new = (m n : ℕ) → new m n ≡ old m n
-
--- the places of the files on a shelf that a farm hands out: those of the shelf that it took back, or none
-abbrev pub places_on : {S F : Type 0} → (S → ℕ → Place F) → Place S → ℕ → Place F
-places_on file_place (Kept shelf) name = file_place shelf name
-places_on file_place _ name = Never
+-- there is a slot, and its content is out
+abbrev pub is_lent : {T : Type 0} → Option (Option T) → Bool
+is_lent (Some None) = true
+is_lent _ = false

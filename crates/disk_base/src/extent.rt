@@ -1,18 +1,27 @@
 //! A file, and what a crash may leave of it.
 
-ghost use Rattle.std.specs.Prelude.{◌≡◌, ◌+◌, ◌<◌, ◌≤◌, ℕ, Bool, List, Option, length, IfOk, OnOk, OnErr, IfSome, IsSomeAnd, is_some, true};
-ghost use Rattle.disk_base.specs.Faults.{HasCause};
-ghost use Rattle.disk_base.specs.Disk.{overwritten, ReadsAt, IsTorn, Images, IsWithin, IsSameSet, TearsFrom, LeavesExactly, GoesOn, StandsStill};
+ghost use Rattle.std.specs.Prelude.{◌≡◌, ◌+◌, ◌<◌, ◌≤◌, length, IfOk, IfSome};
+ghost use Rattle.disk_base.specs.Disk.{FileView, IsFile, ReadsAt, Reads, Grows, Writes, Syncs};
 
 use crate::{Failed, NoMemory};
 
 /// A file.
+///
+/// It is seen as a `FileView`: its bytes where it tells them, what a crash may leave, a clock, room and
+/// spare, and how many calls were made on the device and how often one failed.
+///
+/// **Calls.** Each call but `grow` is one call on the device, whatever it answers. It fails exactly where the
+/// count of faults rises in it, and nothing else raises that count.
 ///
 /// **What a crash may leave.** Bytes that were written since the last sync are unsettled: after a crash
 /// each range that was written, and the part past the end that the file had at that sync, may hold any
 /// bytes, and the file may end anywhere from that end up to its present one. All other bytes stay. After
 /// a sync that answers Ok a crash leaves exactly what a read gives. A write or a sync that answers
 /// `Failed` may have done any part of its work.
+///
+/// **A failed sync** leaves what a read gives. Systems are known that drop what was written when a sync
+/// fails, and that call the next sync a success. A form over such a system keeps to this by answering `Failed`
+/// to each later call: then no read shows what was dropped, and no sync settles it.
 ///
 /// **Moments.** A file has a clock, a number that never falls. What a crash at some moment since might
 /// have left is kept as a set for each number, so that a caller can say of each moment inside a call of
@@ -25,104 +34,38 @@ use crate::{Failed, NoMemory};
 /// A file that tells nothing of its content meets the clauses on what a crash leaves by the set of all
 /// contents.
 pub trait Extent: Drop {
-    /// The bytes that a read gives, where the file tells them.
-    ghost content: { Self → Option (List ℕ) };
-
-    /// The contents that a crash at this moment may leave.
-    ghost may_leave: { Self → Images };
-
-    /// The present moment.
-    ghost moment: { Self → ℕ };
-
-    /// The contents that a crash might have left at some moment from that one on up to the present.
-    ghost left_since: { Self → ℕ → Images };
-
-    /// Up to where a write may end, in bytes from the file's start.
-    ghost room: { Self → ℕ };
-
-    /// For how many more writes and syncs there is memory.
-    ghost spare: { Self → ℕ };
-
-    /// How often a call has failed.
-    ghost file_faults: { Self → ℕ };
-
-    /// The file says that none of its calls ever fails.
-    ghost file_is_quiet: { Self → Bool };
+    /// What the file is seen as.
+    ghost seen: { Self → FileView };
 
     /// How many bytes the file has.
     fn len(&mut self) -> Result<u64, Failed>
-        ensures length { IfOk result (λ n. IfSome (content self.old) (λ bytes. n ≡ length bytes)) }
-        ensures same { content self.new ≡ content self.old }
-        ensures crash { IsWithin (may_leave self.new) (may_leave self.old) }
-        ensures time { GoesOn (moment self.old) (moment self.new) (left_since self.old) (left_since self.new) (may_leave self.new) }
-        ensures room { room self.old ≤ room self.new }
-        ensures spare { spare self.old ≤ spare self.new }
-        ensures cause { HasCause (file_faults self.old) (file_faults self.new) result }
-        ensures quiet { file_is_quiet self.new ≡ file_is_quiet self.old };
+        ensures reads { Reads (seen self.old) (seen self.new) result }
+        ensures length { IfOk result (λ n. IfSome (seen self.old).content (λ bytes. n ≡ length bytes)) };
 
     /// Reads bytes from a place on into `out`, and answers how many: fewer than `out` has only where the
     /// file ends.
     fn read_at(&mut self, at: u64, out: &mut [u8]) -> Result<usize, Failed>
+        ensures reads { Reads (seen self.old) (seen self.new) result }
         ensures count { IfOk result (λ n. n ≤ length out.new) }
-        ensures bytes { IfOk result (λ n. IfSome (content self.old) (λ bytes. ReadsAt n at out.new bytes)) }
-        ensures same { content self.new ≡ content self.old }
-        ensures crash { IsWithin (may_leave self.new) (may_leave self.old) }
-        ensures time { GoesOn (moment self.old) (moment self.new) (left_since self.old) (left_since self.new) (may_leave self.new) }
-        ensures room { room self.old ≤ room self.new }
-        ensures spare { spare self.old ≤ spare self.new }
-        ensures cause { HasCause (file_faults self.old) (file_faults self.new) result }
-        ensures quiet { file_is_quiet self.new ≡ file_is_quiet self.old };
+        ensures bytes { IfOk result (λ n. IfSome (seen self.old).content (λ bytes. ReadsAt n at out.new bytes)) };
 
-    /// Makes room up to `end` and spare for 8 writes and syncs. It is no call on the device: no byte, no
-    /// crash, no moment and no fault has to do with it.
+    /// Makes room up to `end` and spare for 8 writes and syncs. It is no call on the device.
     fn grow(&mut self, end: u64) -> Result<(), NoMemory>
-        ensures room_up_to { OnOk result (end ≤ room self.new) }
-        ensures spare_for { OnOk result (8 ≤ spare self.new) }
-        ensures room { room self.old ≤ room self.new }
-        ensures spare { spare self.old ≤ spare self.new }
-        ensures same { content self.new ≡ content self.old }
-        ensures crash { IsSameSet (may_leave self.new) (may_leave self.old) }
-        ensures time { StandsStill (moment self.old) (moment self.new) (left_since self.old) (left_since self.new) }
-        ensures faults { file_faults self.new ≡ file_faults self.old }
-        ensures quiet { file_is_quiet self.new ≡ file_is_quiet self.old };
+        ensures grows { Grows end (seen self.old) (seen self.new) result };
 
     /// Writes bytes from a place on, over what is there and past the end. The place isn't past the end,
     /// the write ends within the room, and there is spare. It takes no memory.
     fn write_at(&mut self, at: u64, bytes: &[u8]) -> Result<(), Failed>
-        requires place { IfSome (content self.old) (λ was. at ≤ length was) }
-        requires room { at + length bytes.now ≤ room self.old }
-        requires spare { 0 < spare self.old }
-        ensures written { OnOk result (IfSome (content self.old) (λ was. content self.new ≡ Some (overwritten was at bytes.now))) }
-        ensures torn { OnErr result (IfSome (content self.old) (λ was. IsSomeAnd (content self.new) (λ now. IsTorn at (length bytes.now) was now))) }
-        ensures tells { is_some (content self.new) ≡ is_some (content self.old) }
-        ensures crash { TearsFrom at (length bytes.now) (may_leave self.old) (may_leave self.new) }
-        ensures time { GoesOn (moment self.old) (moment self.new) (left_since self.old) (left_since self.new) (may_leave self.new) }
-        ensures room_stays { room self.old ≤ room self.new }
-        ensures spare_used { spare self.old ≤ spare self.new + 1 }
-        ensures cause { HasCause (file_faults self.old) (file_faults self.new) result }
-        ensures quiet { file_is_quiet self.new ≡ file_is_quiet self.old };
+        requires place { IfSome (seen self.old).content (λ was. at ≤ length was) }
+        requires room { at + length bytes.now ≤ (seen self.old).room }
+        requires spare { 0 < (seen self.old).spare }
+        ensures writes { Writes at bytes.now (seen self.old) (seen self.new) result };
 
     /// Settles what was written. There is spare. It takes no memory.
     fn sync(&mut self) -> Result<(), Failed>
-        requires { 0 < spare self.old }
-        ensures settled { OnOk result (IfSome (content self.old) (λ bytes. LeavesExactly bytes (may_leave self.new))) }
-        ensures same { content self.new ≡ content self.old }
-        ensures crash { IsWithin (may_leave self.new) (may_leave self.old) }
-        ensures time { GoesOn (moment self.old) (moment self.new) (left_since self.old) (left_since self.new) (may_leave self.new) }
-        ensures room { room self.old ≤ room self.new }
-        ensures spare_used { spare self.old ≤ spare self.new + 1 }
-        ensures cause { HasCause (file_faults self.old) (file_faults self.new) result }
-        ensures quiet { file_is_quiet self.new ≡ file_is_quiet self.old };
+        requires { 0 < (seen self.old).spare }
+        ensures syncs { Syncs (seen self.old) (seen self.new) result };
 
-    /// A crash may leave what a read gives.
-    ghost content_is_image: { (file : Self) → IfSome (content file) (may_leave file) };
-
-    /// The present moment is one of those since an earlier one.
-    ghost present_counts: { (file : Self) (t : ℕ) (c : List ℕ) → t ≤ moment file → may_leave file c → left_since file t c };
-
-    /// Since the present moment there is no other.
-    ghost present_alone: { (file : Self) (c : List ℕ) → left_since file (moment file) c → may_leave file c };
-
-    /// A file that never fails has never failed.
-    ghost quiet_has_no_fault: { (file : Self) → file_is_quiet file ≡ true → file_faults file ≡ 0 };
+    /// What is true of every file is true of this one.
+    ghost is_file: { (file : Self) → IsFile (seen file) };
 }

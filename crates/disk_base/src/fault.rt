@@ -29,12 +29,15 @@ impl<T: Drop> From<AllocFailed<T>> for NoMemory {
     }
 }
 
-/// Why a shelf hands out no file.
+/// Why a shelf refuses a call.
 #[derive(Debug, Drop, Error)]
 pub enum ShelfFault {
-    /// An earlier make of that name answered Ok.
+    /// There is a file of that name.
     #[error("the file exists")]
     Exists,
+    /// There is no file of that name.
+    #[error("the file is absent")]
+    Absent,
     /// A device call failed.
     #[error("the device failed")]
     Failed,
@@ -62,7 +65,7 @@ impl<T: Drop> From<AllocFailed<T>> for ShelfFault {
 /// Why a farm hands out no root or shelf.
 #[derive(Debug, Drop, Error)]
 pub enum FarmFault {
-    /// The root has content.
+    /// The root has a file, and not the admin's.
     #[error("the root is not empty")]
     NotEmpty,
     /// A device call failed.

@@ -57,12 +57,19 @@ impl FaultPlan {
         ensures after { self.new ≡ after_call result self.old }
         ensures never_falls { self.old.faults ≤ self.new.faults }
     {
-        let failed = self.made < self.reach && is_next(self.made, &self.fails) || has_reason;
+        let failed = self.fails_next() || has_reason;
         self.made = self.made.saturating_add(1);
         if failed {
             self.faults = self.faults.saturating_add(1);
         }
         failed
+    }
+
+    /// Whether the next call is one of those that are to fail.
+    pub fn fails_next(&self) -> bool
+        ensures { result ≡ fails_next self.now }
+    {
+        self.made < self.reach && is_next(self.made, &self.fails)
     }
 
     /// Counts one more call, which is refused for another reason than a fault.

@@ -35,4 +35,6 @@ pub use sink::Sink;
 pub use source::Source;
 
 #[cfg(test)]
+mod switch_order;
+#[cfg(test)]
 mod tests;

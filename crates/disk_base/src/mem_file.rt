@@ -4,9 +4,10 @@ ghost use Rattle.std.specs.Prelude.{◌≡◌, ◌+◌, ◌-◌, ◌*◌, ◌^�
 ghost use Rattle.std.specs.List.{list_any};
 ghost use Rattle.std.specs.Option.{option_map};
 ghost use Rattle.disk_base.specs.History.{written_in, epoch_of};
-ghost use Rattle.disk_base.specs.Faults.{HasCause, fails_next, after_call, is_quiet, quiet_is_zero};
+ghost use Rattle.disk_base.specs.Faults.{unused, HasCause, fails_next, after_call};
 ghost use Rattle.disk_base.specs.Disk.{overwritten};
-ghost use Rattle.disk_base.specs.Images.{IsImage, covers, is_settled, chosen, misread, read_of, content_of, moment_of, MayLeave, LeftSince, empty_file, counted, after_write, after_sync, after_crash, content_is_image, present_counts, present_alone};
+ghost use Rattle.disk_base.specs.Images.{IsImage, covers, is_settled, chosen, misread, read_of, empty_file, counted, after_grow, after_write, after_sync, after_crash, view_of, is_file};
+ghost use Rattle.disk_base.specs.Racks.{flipped, after_flip};
 
 use crate::{Extent, Failed, FaultPlan, NoMemory};
 use std::alloc::Global;
@@ -98,6 +99,15 @@ impl MemFile {
         }
     }
 
+    // The file as it is handed out once more: its calls and faults are counted anew.
+    pub(crate) fn handed_out_again(self, fails: Vec<u64>) -> MemFile
+        ensures { result ≡ record self { plan = unused fails.items } }
+    {
+        let mut file = self;
+        file.plan = FaultPlan::new(fails);
+        file
+    }
+
     pub(crate) fn faults(&self) -> u64
         ensures { result ≡ self.now.plan.faults }
     {
@@ -120,6 +130,28 @@ impl MemFile {
         self.left_after(choice)
     }
 
+    // Flips one bit, if the file has it. All of the file is settled then, and what was before is forgotten.
+    pub(crate) fn flip(&mut self, bit: u64)
+        ensures { self.new ≡ after_flip bit self.old }
+    {
+        flip_bit(&mut self.bytes, bit);
+        let end = self.bytes.len();
+        self.settled_end = end;
+        self.changes.clear();
+        self.replaced.clear();
+    }
+
+    // How many bytes aren't settled.
+    pub(crate) fn loose_count(&self) -> usize {
+        let mut count = 0;
+        for place in 0..self.bytes.len() {
+            if !stands(self.settled_end, &self.changes, place) {
+                count += 1;
+            }
+        }
+        count
+    }
+
     // The file that a crash leaves.
     fn left_after(self, choice: &[u8]) -> MemFile
         ensures { result ≡ after_crash choice.now self }
@@ -130,6 +162,16 @@ impl MemFile {
         file.changes.clear();
         file.replaced.clear();
         file
+    }
+}
+
+// Flips one bit, counted from the lowest bit of the first byte, if there is such a byte.
+fn flip_bit(bytes: &mut [u8], bit: u64)
+    ensures { bytes.new ≡ flipped bit bytes.old }
+{
+    let place = (bit / 8) as usize;
+    if place < bytes.len() {
+        bytes[place] ^= 1 << (bit % 8);
     }
 }
 
@@ -223,29 +265,9 @@ fn misreport(out: &mut [u8], at: usize, lies: &[u64])
 }
 
 impl Extent for MemFile {
-    ghost content = { content_of };
+    ghost seen = { view_of };
 
-    ghost may_leave = { MayLeave };
-
-    ghost moment = { moment_of };
-
-    ghost left_since = { LeftSince };
-
-    ghost room = { λ file. file.room };
-
-    ghost spare = { λ file. file.spare };
-
-    ghost file_faults = { λ file. file.plan.faults };
-
-    ghost file_is_quiet = { λ file. is_quiet file.plan };
-
-    ghost content_is_image = { content_is_image };
-
-    ghost present_counts = { present_counts };
-
-    ghost present_alone = { present_alone };
-
-    ghost quiet_has_no_fault = { λ file quiet. quiet_is_zero file.plan quiet };
+    ghost is_file = { is_file };
 
     /// Fails exactly at the chosen calls.
     fn len(&mut self) -> Result<u64, Failed>
@@ -285,7 +307,7 @@ impl Extent for MemFile {
 
     /// Takes memory for the bytes, for what 8 writes may replace, and for 8 changes.
     fn grow(&mut self, end: u64) -> Result<(), NoMemory>
-        ensures ok { OnOk result (self.new ≡ record self.old { room = max self.old.room end; spare = 8 }) }
+        ensures ok { OnOk result (self.new ≡ after_grow end self.old) }
         ensures err { OnErr result (self.new ≡ self.old) }
         ensures spare { self.old.spare ≤ self.new.spare }
     {

@@ -50,11 +50,7 @@ impl MemSink {
 }
 
 impl Sink for MemSink {
-    ghost held = { λ sink. Some sink.held };
-
-    ghost sink_faults = { λ sink. sink.plan.faults };
-
-    ghost is_handed_on = { λ sink. sink.is_handed_on };
+    ghost seen = { λ sink. record { held = Some sink.held; faults = sink.plan.faults; is_handed_on = sink.is_handed_on } };
 
     /// Takes all the bytes. It fails exactly at the chosen calls and where the bytes pass the room.
     fn push(&mut self, bytes: &[u8]) -> Result<usize, Failed>

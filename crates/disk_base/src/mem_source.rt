@@ -40,11 +40,7 @@ impl MemSource {
 }
 
 impl Source for MemSource {
-    ghost left = { λ source. Some source.left };
-
-    ghost source_faults = { λ source. source.plan.faults };
-
-    ghost source_is_quiet = { λ source. is_quiet source.plan };
+    ghost seen = { λ source. record { left = Some source.left; faults = source.plan.faults; is_quiet = is_quiet source.plan } };
 
     ghost quiet_has_no_fault = { λ source quiet. quiet_is_zero source.plan quiet };
 

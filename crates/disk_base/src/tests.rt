@@ -1,9 +1,8 @@
 //! Each public call once with ample memory, failing calls by number, and what a crash leaves.
 
-ghost use Rattle.std.specs.Prelude.{◌≡◌, ◌<◌, length, false};
-ghost use Rattle.disk_base.specs.Places.{is_out};
-ghost use Rattle.disk_base.specs.FarmRacks.{shelves_in};
+ghost use Rattle.std.specs.Prelude.{◌≡◌, ◌<◌, length, true};
 
+use super::switch_order::switch_over;
 use super::*;
 use std::alloc::{AllocError, Global};
 use std::test::Fail;
@@ -68,15 +67,15 @@ fn make(shelf: &mut MemShelf, alloc: Global, name: u64) -> u8 {
         }
         Err(ShelfFault::Exists) => 2,
         Err(ShelfFault::Failed) => 3,
-        Err(ShelfFault::Memory) => 4,
+        Err(_) => 4,
     }
 }
 
 // What two makes on the shelf of disk 0 and volume 1 answer.
-fn make_two(farm: &mut MemFarm, alloc: Global, names: [u64; 2]) -> Result<[u8; 2], FarmFault>
-    requires { is_out (shelves_in farm.old.slots 0 1) ≡ false }
-    ensures { is_out (shelves_in farm.new.slots 0 1) ≡ false }
-{
+fn make_two(farm: &mut MemFarm, alloc: Global, names: [u64; 2]) -> Result<[u8; 2], FarmFault> {
+    if farm.is_out(0, 1) {
+        return Err(FarmFault::Memory);
+    }
     let mut shelf = farm.shelf(0, 1)?;
     let answers = [
         make(&mut shelf, alloc, names[0]),
@@ -84,6 +83,127 @@ fn make_two(farm: &mut MemFarm, alloc: Global, names: [u64; 2]) -> Result<[u8; 2
     ];
     farm.hold(0, 1, shelf);
     Ok(answers)
+}
+
+fn open(shelf: &mut MemShelf, alloc: Global, name: u64) -> Option<MemFile> {
+    if shelf.is_out(name) {
+        return None;
+    }
+    shelf.open(alloc, name).ok()
+}
+
+// What an open or a remove answers: 0 for Ok, 1 where the name is absent, 2 where the call fails. The file is
+// handed back.
+fn come_or_go(shelf: &mut MemShelf, alloc: Global, name: u64, goes: bool) -> u8 {
+    if shelf.is_out(name) {
+        return 9;
+    }
+    if goes {
+        return refusal(shelf.remove(name).err());
+    }
+    match shelf.open(alloc, name) {
+        Ok(file) => {
+            shelf.hold(name, file);
+            0
+        }
+        Err(fault) => refusal(Some(fault)),
+    }
+}
+
+fn refusal(fault: Option<ShelfFault>) -> u8 {
+    match fault {
+        None => 0,
+        Some(ShelfFault::Absent) => 1,
+        Some(ShelfFault::Failed) => 2,
+        Some(_) => 9,
+    }
+}
+
+// The first two names of a shelf, and 99 where there are none.
+fn names(shelf: &mut MemShelf, alloc: Global) -> [u64; 2] {
+    let Ok(names) = shelf.names(alloc) else {
+        return [0; 2];
+    };
+    [
+        names.first().copied().unwrap_or(99),
+        names.get(1).copied().unwrap_or(99),
+    ]
+}
+
+// The first four bytes of a file, and 0 past its end.
+fn bytes(shelf: &mut MemShelf, alloc: Global, name: u64) -> [u8; 4] {
+    let mut out = [0; 4];
+    if let Some(mut file) = open(shelf, alloc, name) {
+        let _ = file.read_at(0, &mut out);
+    }
+    out
+}
+
+// Makes a file of the bytes `abc`. If they are settled, `XYZ` is then written from place 1 on.
+fn make_file(shelf: &mut MemShelf, alloc: Global, name: u64, settled: bool) -> bool {
+    let Ok(mut file) = shelf.make(alloc, name) else {
+        return false;
+    };
+    let mut wrote = write(&mut file, 0, b"abc").is_ok();
+    if settled {
+        wrote = wrote && sync(&mut file).is_ok() && write(&mut file, 1, b"XYZ").is_ok();
+    }
+    shelf.hold(name, file);
+    wrote
+}
+
+// A farm with one shelf, whose files 5 and 3 have three bytes each that aren't settled.
+fn filled(alloc: Global) -> Result<MemFarm, FarmFault> {
+    let mut farm = MemFarm::new(alloc, Vec::new(alloc));
+    let mut shelf = farm.shelf(1, 7)?;
+    let _ = make_file(&mut shelf, alloc, 5, true);
+    let _ = make_file(&mut shelf, alloc, 3, false);
+    farm.hold(1, 7, shelf);
+    Ok(farm)
+}
+
+// The names and the bytes of the files of that shelf.
+fn found(farm: &mut MemFarm, alloc: Global) -> ([u64; 2], [u8; 4], [u8; 4]) {
+    if farm.is_out(1, 7) {
+        return ([0; 2], [0; 4], [0; 4]);
+    }
+    let Ok(mut shelf) = farm.shelf(1, 7) else {
+        return ([0; 2], [0; 4], [0; 4]);
+    };
+    let names = names(&mut shelf, alloc);
+    let first = bytes(&mut shelf, alloc, names[0]);
+    let second = bytes(&mut shelf, alloc, names[1]);
+    (names, first, second)
+}
+
+// What is found after a crash with this choice, or after one bit of file 5 is flipped.
+fn found_after(
+    alloc: Global,
+    choice: Option<&[u8; 6]>,
+) -> Result<([u64; 2], [u8; 4], [u8; 4]), FarmFault> {
+    let mut farm = filled(alloc)?;
+    let Some(choice) = choice else {
+        farm.flip(1, 7, 5, 9);
+        return Ok(found(&mut farm, alloc));
+    };
+    Ok(found(&mut farm.crash(choice), alloc))
+}
+
+// 0 where the root is empty, 1 where it is refused, 2 where the admin's file is there.
+fn root(farm: &mut MemFarm) -> u8 {
+    match farm.root("root") {
+        Ok(there) => there as u8 * 2,
+        Err(_) => 1,
+    }
+}
+
+// What the root answers once the shelf of disk 0 and volume 0 has a file of this name.
+fn root_with(alloc: Global, name: u64) -> Result<u8, FarmFault> {
+    let mut farm = MemFarm::new(alloc, Vec::new(alloc));
+    let mut shelf = farm.shelf(0, 0)?;
+    let _ = make(&mut shelf, alloc, name);
+    farm.hold(0, 0, shelf);
+    Ok(root(&mut farm))
 }
 
 // 0 for Ok, 1 where the root isn't empty, 2 where the call fails, 3 for want of memory.
@@ -94,6 +214,14 @@ fn code<T: Drop>(answer: Result<T, FarmFault>) -> u8 {
         Err(FarmFault::Failed) => 2,
         Err(FarmFault::Memory) => 3,
     }
+}
+
+// Whether a mark was set beside a whole file.
+fn switched<H: Shelf>(shelf: &mut H, alloc: Global) -> Result<bool, ShelfFault>
+    requires { (H.seen shelf.old).is_told ≡ true }
+{
+    let mut mark = shelf.make(alloc, 2)?;
+    Ok(switch_over(shelf, alloc, 1, b"abc", 2, &mut mark))
 }
 
 #[test]
@@ -191,5 +319,70 @@ fn farms_number_their_calls(rt: HostRuntime) -> Result<(), Fail> {
     assert_eq!(rt; [empty, failed, full], [0, 2, 1]);
     assert_eq!(rt; first, [3, 0]);
     assert_eq!(rt; second, [2, 1]);
+    Ok(())
+}
+
+#[test]
+fn names_come_and_go(rt: HostRuntime) -> Result<(), Fail> {
+    let alloc = rt.alloc();
+    let mut shelf = MemShelf::new(alloc, vec![in alloc; 5]?);
+    let made = [make(&mut shelf, alloc, 9), make(&mut shelf, alloc, 4)];
+    let mut answers = [0; 6];
+    for (answer, (name, goes)) in answers.iter_mut().zip([
+        (7, false),
+        (7, true),
+        (9, true),
+        (9, true),
+        (9, true),
+        (4, false),
+    ]) {
+        *answer = come_or_go(&mut shelf, alloc, name, goes);
+    }
+    assert_eq!(rt; made, [0, 0]);
+    assert_eq!(rt; answers, [1, 1, 2, 0, 1, 0]);
+    assert_eq!(rt; names(&mut shelf, alloc), [4, 99]);
+    Ok(())
+}
+
+#[test]
+fn a_mark_is_set_beside_a_whole_file(rt: HostRuntime) -> Result<(), Fail> {
+    let alloc = rt.alloc();
+    let mut shelf = MemShelf::new(alloc, Vec::new(alloc));
+    let done = switched(&mut shelf, alloc).unwrap_or(false);
+    assert_eq!(rt; done, true);
+    assert_eq!(rt; names(&mut shelf, alloc), [1, 2]);
+    assert_eq!(rt; bytes(&mut shelf, alloc, 1), *b"abc\0");
+    Ok(())
+}
+
+#[test]
+fn a_farm_opens_again_after_a_crash(rt: HostRuntime) -> Result<(), Fail> {
+    let alloc = rt.alloc();
+    for bits in 0u8..64 {
+        let mut choice = [0u8; 6];
+        for (place, byte) in choice.iter_mut().enumerate() {
+            *byte = bits >> place & 1;
+        }
+        let [a, b, c, d, e, f] = choice;
+        let left = found_after(alloc, Some(&choice)).unwrap_or(([0; 2], [0; 4], [0; 4]));
+        assert_eq!(rt; left.0, [3, 5], "choice {bits}");
+        assert_eq!(rt; left.1, [a, b, c, 0], "choice {bits}");
+        assert_eq!(rt; left.2, [b'a', d, e, f], "choice {bits}");
+    }
+    let flipped = found_after(alloc, None).unwrap_or(([0; 2], [0; 4], [0; 4]));
+    assert_eq!(rt; flipped.2, *b"aZYZ");
+    Ok(())
+}
+
+#[test]
+fn a_root_is_empty_kept_or_foreign(rt: HostRuntime) -> Result<(), Fail> {
+    let alloc = rt.alloc();
+    let mut empty = MemFarm::new(alloc, Vec::new(alloc));
+    let answers = [
+        root(&mut empty),
+        root_with(alloc, 1).unwrap_or(9),
+        root_with(alloc, 8).unwrap_or(9),
+    ];
+    assert_eq!(rt; answers, [0, 2, 1]);
     Ok(())
 }

@@ -5,7 +5,7 @@ use Rattle.std.proofs.lemmas.Bool.{cases_eq}
 use Rattle.std.proofs.lemmas.List.{take-take, get_or-drop, get_or_at, take_at, drop_at, drop-drop}
 use Rattle.std.proofs.lemmas.List.Sums.{sum_by_push}
 use Rattle.std.proofs.lemmas.Nat.{from_be_bytes-to_be_bytes_4}
-use Rattle.gate_log.specs.LogFile.{mark, length_at, next_place, body_at, record_length, end_place, IsAtRest, IsRecord, record_behind, IsStaged}
+use Rattle.gate_log.specs.LogFile.{longest_body, mark, length_at, next_place, body_at, record_length, end_place, IsAtRest, IsRecord, record_behind, IsStaged}
 use Rattle.gate_log.proofs.Chain.{Walks}
 use Rattle.gate_log.proofs.Walk.{walk_push}
 use Rattle.gate_log.proofs.Rest.{rest_walk, walk_rest, walk_agrees, rest_behind}
@@ -24,7 +24,7 @@ staged file c bodies body tail r is long =
     record { at_rest = rest_behind file c bodies r same long; rest = tail; behind = back ∙ joined }
 
 module _ (file c : List ℕ) (bodies : List (List ℕ)) (body : List ℕ)
-    (s : IsStaged file bodies body) (some : 1 ≤ length body) (few : length body ≤ 4194400)
+    (s : IsStaged file bodies body) (some : 1 ≤ length body) (few : length body ≤ longest_body)
     (before : take (end_place bodies) c ≡ take (end_place bodies) file) (after : drop (end_place bodies + 1) c ≡ drop (end_place bodies + 1) file) (size : length c ≡ length file) where
   abbrev end : ℕ
   end = end_place bodies

@@ -1,21 +1,19 @@
 -- An append as a whole, by how far it came.
-use Rattle.std.proofs.Common.{◌≡◌, inl, inr, ◌<◌, ◌≤◌, ℕ, ◌+◌, List, [], ◌∷◌, ◌++◌, length, sym, ◌∙◌, ap, subst, arith}
+use Rattle.std.proofs.Common.{◌≡◌, inl, inr, ◌≤◌, ℕ, ◌+◌, List, [], ◌∷◌, ◌++◌, length, sym, ◌∙◌, ap, subst, arith}
 use Rattle.disk_base.specs.Disk.{Images, IsTorn, LeavesExactly, overwritten}
-use Rattle.gate_log.specs.LogFile.{bodies_in, bodies_of, record_length, end_place, IsAtRest, HasGate, IsEither, IsStaged, record_behind}
+use Rattle.gate_log.specs.LogFile.{longest_body, bodies_of, record_length, end_place, IsAtRest, IsBeforeOrAfter, IsStaged, record_behind}
 use Rattle.gate_log.specs.GateLog.{IsStarted}
+use Rattle.gate_log.specs.LogLaws.{rest_log}
 use Rattle.std.proofs.lemmas.List.Sums.{sum_by_push}
 use Rattle.gate_log.proofs.Steps.{rest_torn, staged_whole, opened_torn, opened_whole}
 
-rest_gate : (c : List ℕ) (bodies : List (List ℕ)) → IsAtRest c bodies → HasGate c
-rest_gate c bodies r = inr (subst (λ (bs : List (List ℕ)). end_place bs < length c) (sym (ap bodies_in r.stands)) r.inside)
+before : (c : List ℕ) (bodies : List (List ℕ)) (body : List ℕ) → IsAtRest c bodies → IsBeforeOrAfter bodies body c
+before c bodies body r = inl (rest_log c bodies r)
 
-before : (c : List ℕ) (bodies : List (List ℕ)) (body : List ℕ) → IsAtRest c bodies → IsEither bodies body c
-before c bodies body r = record { stands = inl r.stands; gate = rest_gate c bodies r }
+after : (c : List ℕ) (bodies : List (List ℕ)) (body : List ℕ) → IsAtRest c (bodies ++ body ∷ []) → IsBeforeOrAfter bodies body c
+after c bodies body r = inr (rest_log c (bodies ++ body ∷ []) r)
 
-after : (c : List ℕ) (bodies : List (List ℕ)) (body : List ℕ) → IsAtRest c (bodies ++ body ∷ []) → IsEither bodies body c
-after c bodies body r = record { stands = inr r.stands; gate = rest_gate c (bodies ++ body ∷ []) r }
-
-module _ (was body : List ℕ) (place : ℕ) (images : Images) (r : IsStarted images place (bodies_of was) was) (some : 1 ≤ length body) (few : length body ≤ 4194400) where
+module _ (was body : List ℕ) (place : ℕ) (images : Images) (r : IsStarted images place (bodies_of was) was) (some : 1 ≤ length body) (few : length body ≤ longest_body) where
   abbrev bodies : List (List ℕ)
   bodies = bodies_of was
 
@@ -23,10 +21,10 @@ module _ (was body : List ℕ) (place : ℕ) (images : Images) (r : IsStarted im
   abbrev pub staged_file : List ℕ
   staged_file = overwritten was (place + 1) (record_behind body [])
 
-  pub untouched : IsEither bodies body was
+  pub untouched : IsBeforeOrAfter bodies body was
   untouched = before was bodies body r.at_rest
 
-  pub first_torn : (n : ℕ) (c : List ℕ) → IsTorn (place + 1) n was c → IsEither bodies body c
+  pub first_torn : (n : ℕ) (c : List ℕ) → IsTorn (place + 1) n was c → IsBeforeOrAfter bodies body c
   first_torn n c t = before c bodies body (rest_torn was c bodies n r.at_rest (subst (λ p. IsTorn (p + 1) n was c) r.end_is t))
 
   staged_there : IsStaged (overwritten was (end_place bodies + 1) (record_behind body [])) bodies body
@@ -41,7 +39,7 @@ module _ (was body : List ℕ) (place : ℕ) (images : Images) (r : IsStarted im
   pub place_inside : place ≤ length staged_file
   place_inside = let i = staged_is.at_rest.inside in let e = r.end_is in omega arith
 
-  pub second_torn : (c : List ℕ) → IsTorn place 1 staged_file c → IsEither bodies body c
+  pub second_torn : (c : List ℕ) → IsTorn place 1 staged_file c → IsBeforeOrAfter bodies body c
   second_torn c t = elim (opened_torn staged_file c bodies body staged_is some few (subst (λ p. IsTorn p 1 staged_file c) r.end_is t)) [
     | inl rest ↦ before c bodies body rest
     | inr rest ↦ after c bodies body rest

@@ -1,14 +1,18 @@
 -- What the steps of a start come to.
-use Rattle.std.proofs.Common.{◌≡◌, inl, ◌<◌, ◌≤◌, ℕ, true, false, List, [], ◌∷◌, ◌++◌, length, take, refl, sym, ◌∙◌, ap, subst, arith, Option, None, Some, Result, Ok, Err, IsSomeAnd, OnOk, IfOk, IfErr}
+use Rattle.std.proofs.Common.{◌≡◌, inl, ◌<◌, ◌≤◌, ℕ, true, false, nat_le, nat_lt, List, [], ◌∷◌, ◌++◌, length, take, sym, ◌∙◌, ap, subst, arith, Option, None, Some, Result, Ok, Err, IsSomeAnd, OnOk}
 use Rattle.std.specs.Prelude.{bytes_eq}
 use Rattle.std.proofs.lemmas.Bool.Decides.{nat_tests}
 use Rattle.std.proofs.lemmas.Slice.Eq.{bytes_eq-Decides}
-use Rattle.disk_base.specs.Disk.{Images, IsTorn, LeavesExactly, overwritten}
+use Rattle.std.proofs.lemmas.List.{drop_all}
+use Rattle.disk_base.specs.Disk.{Images, FileView, IsTorn, LeavesExactly, Grows, overwritten}
+use Rattle.disk_base.specs.Faults.{added, one_more}
+use Rattle.disk_base.specs.Moments.{added_twice, weaker, after_grow}
 use Rattle.gate_log.specs.declared.fault.LogFault.{LogFault}
 use Rattle.gate_log.specs.declared.fault.LogFault.TheVariants.{Fault, BadHead, BadChain, Shut, BadLength, Full, Memory}
-use Rattle.gate_log.specs.LogFile.{mark, bad_head, bad_chain, chain_of, contents_of, bodies_in, bodies_of, end_place, IsAtRest, SaysTheSame}
-use Rattle.gate_log.specs.GateLog.{IsStarted, EndsAt, ChainAnswers, IsFaultOrBroken}
-use Rattle.gate_log.proofs.Fetch.{some_and}
+use Rattle.gate_log.specs.LogFile.{mark, bad_head, bad_chain, chain_of, contents_of, bodies_in, bodies_of, end_place, IsAtRest, IsSameOrOpen, started_file}
+use Rattle.gate_log.specs.GateLog.{IsStarted, EndsAt, gates_read, EndAnswers, ChainAnswers, IsThrough, WritesStart}
+use Rattle.gate_log.proofs.Fetch.{if_some, at_some, some_and}
+use Rattle.gate_log.proofs.Torn.{overwritten_end}
 use Rattle.gate_log.proofs.Rest.{short_file, unmarked_file, marked_file}
 use Rattle.gate_log.proofs.Steps.{head_torn, head_whole, ends_place, close_torn, close_whole}
 
@@ -20,12 +24,34 @@ pub on_ok_map : {T E : Type 0} (r : Result T E) (P Q : Type 0) → (P → Q) →
 on_ok_map (Ok x) P Q f h = f h
 on_ok_map (Err e) P Q f h = tt
 
-pub short_says : (was c : List ℕ) → length was ≤ 9 → length c ≤ 9 → SaysTheSame was c
+-- the file that a start leaves, by the case of the file
+
+head_is : (was : List ℕ) → length was ≤ 9 → mark ++ 0 ∷ [] ≡ overwritten was 0 (mark ++ 0 ∷ [])
+head_is was short = sym (ap (λ l. (mark ++ 0 ∷ []) ++ l) (drop_all 9 was short))
+
+pub started_short : (was : List ℕ) → length was ≤ 9 → started_file was ≡ mark ++ 0 ∷ []
+started_short was short = let t : nat_le (length was) 9 ≡ true = grind (arith, nat_tests) in rw t
+
+pub started_closed : (was : List ℕ) (len : ℕ) → 9 < len → len ≡ length was → take 8 was ≡ mark → EndsAt was len → started_file was ≡ was ++ 0 ∷ []
+started_closed was len long is head e =
+    let place = ends_place was len (omega arith) head e in
+    let t : nat_le (length was) 9 ≡ false = grind (arith, nat_tests) in
+    let u : nat_lt (end_place (bodies_of was)) (length was) ≡ false = grind (arith, nat_tests) in
+    rw (t, u)
+
+pub started_as_it_is : (was : List ℕ) (end : ℕ) → 9 < length was → end < length was → take 8 was ≡ mark → EndsAt was end → started_file was ≡ was
+started_as_it_is was end long inside head e =
+    let place = ends_place was end long head e in
+    let t : nat_le (length was) 9 ≡ false = grind (arith, nat_tests) in
+    let u : nat_lt (end_place (bodies_of was)) (length was) ≡ true = grind (arith, nat_tests) in
+    rw (t, u)
+
+pub short_says : (was c : List ℕ) → length was ≤ 9 → length c ≤ 9 → IsSameOrOpen was c
 short_says was c a b =
     let same = short_file c b ∙ sym (short_file was a) in
-    record { same = λ gate. (same, inl b); else_broken = inl same }
+    record { same = λ gate. (same, inl b); same_or_open = inl same }
 
-pub short_torn : (was c : List ℕ) → length was ≤ 9 → IsTorn 0 9 was c → SaysTheSame was c
+pub short_torn : (was c : List ℕ) → length was ≤ 9 → IsTorn 0 9 was c → IsSameOrOpen was c
 short_torn was c short t = short_says was c short (head_torn was c short t)
 
 pub begun : (was : List ℕ) (images : Images) (now : Option (List ℕ)) → length was ≤ 9
@@ -44,7 +70,7 @@ closed was len images now long is head e h =
     some_and now (overwritten was len (0 ∷ [])) (IsStarted images len (bodies_of was)) h.0
     (record { at_rest = at_rest; end_is = ends_place was len (omega arith) head e; exactly = h.1 })
 
-pub closed_torn : (was : List ℕ) (len : ℕ) → 9 < len → len ≡ length was → take 8 was ≡ mark → EndsAt was len → (c : List ℕ) → IsTorn len 1 was c → SaysTheSame was c
+pub closed_torn : (was : List ℕ) (len : ℕ) → 9 < len → len ≡ length was → take 8 was ≡ mark → EndsAt was len → (c : List ℕ) → IsTorn len 1 was c → IsSameOrOpen was c
 closed_torn was len long is head e c t =
     close_torn was (omega arith) head (subst (EndsAt was) is e) c (subst (λ n. IsTorn n 1 was c) is t)
 
@@ -54,19 +80,48 @@ no_mark was long t = unmarked_file was long (grind (arith, nat_tests, bytes_eq-D
 pub with_mark : (was : List ℕ) → bytes_eq (take 8 was) mark ≡ true → take 8 was ≡ mark
 with_mark was t = grind (arith, nat_tests, bytes_eq-Decides)
 
-pub chain_answers : (was : List ℕ) (result : Result ℕ LogFault) → 9 < length was → take 8 was ≡ mark → ((end : ℕ) → result ≡ Ok end → EndsAt was end)
-    → ((p : ℕ) → result ≡ Err (BadChain p) → chain_of was ≡ bad_chain p) → ((e : LogFault) → result ≡ Err e → IsFaultOrBroken e) → ChainAnswers was result
-chain_answers was (Ok end) long head ends breaks named = (head, ends end refl)
-chain_answers was (Err Fault) long head ends breaks named = tt
-chain_answers was (Err (BadChain p)) long head ends breaks named = marked_file was long head ∙ breaks p refl
-chain_answers was (Err Shut) long head ends breaks named = named Shut refl
-chain_answers was (Err BadHead) long head ends breaks named = absurd (named BadHead refl)
-chain_answers was (Err (BadLength n)) long head ends breaks named = named (BadLength n) refl
-chain_answers was (Err (Full n)) long head ends breaks named = named (Full n) refl
-chain_answers was (Err Memory) long head ends breaks named = named Memory refl
+-- a write of the head
+pub begin_writes : {T E : Type 0} (was : List ℕ) (old new : FileView) (result : Result T E) → length was ≤ 9 → IsThrough 0 (mark ++ 0 ∷ []) was old new result → WritesStart was 8 old new result
+begin_writes was old new result short w = record {
+  started = on_ok_map result _ _ (begun was new.images new.content short) w.settled;
+  written = on_ok_map result _ _ (λ h. h.0 ∙ ap Some (sym (head_is was short) ∙ sym (started_short was short))) w.settled;
+  says = and_map new.content (IsTorn 0 9 was) (IsSameOrOpen was) (λ d t. short_torn was d short t) w.torn;
+  moments = λ exactly. weaker (IsTorn 0 9 was) (IsSameOrOpen was) old new (w.moments exactly) (λ d t. short_torn was d short t);
+}
 
-pub ok_is : {T E : Type 0} (r : Result T E) (P : T → Type 0) (x : T) → r ≡ Ok x → IfOk r P → P x
-ok_is r P x e h = subst (λ q. IfOk q P) e h
+-- a write of a closed gate
+module _ {T E U F : Type 0} (was : List ℕ) (len end : ℕ) (old grown new : FileView) (grew : Result U F) (result : Result T E) (long : 9 < len) (is : len ≡ length was) (head : take 8 was ≡ mark) (e : EndsAt was len)
+    (grows : Grows end old grown grew) where
+  pub close_writes : IsThrough len (0 ∷ []) was grown new result → WritesStart was len old new result
+  close_writes w = record {
+    started = on_ok_map result _ _ (closed was len new.images new.content long is head e) w.settled;
+    written = on_ok_map result _ _ (λ h. h.0 ∙ ap Some (ap (λ n. overwritten was n (0 ∷ [])) is ∙ overwritten_end was 0 ∙ sym (started_closed was len long is head e))) w.settled;
+    says = and_map new.content (IsTorn len 1 was) (IsSameOrOpen was) (closed_torn was len long is head e) w.torn;
+    moments = λ exactly. after_grow (IsSameOrOpen was) end old grown new grew grows
+        (weaker (IsTorn len 1 was) (IsSameOrOpen was) grown new (w.moments (λ c left. exactly c ((grows.same_images c).0 left))) (closed_torn was len long is head e));
+  }
 
-pub err_is : {T E : Type 0} (r : Result T E) (P : E → Type 0) (x : E) → r ≡ Err x → IfErr r P → P x
-err_is r P x e h = subst (λ q. IfErr q P) e h
+-- the same under another answer
+pub writes_in_part : {T E U F : Type 0} (was : List ℕ) (end : ℕ) (old new : FileView) (e : E) (f : F) → WritesStart {T = T} was end old new (Err e) → WritesStart {T = U} was end old new (Err f)
+writes_in_part was end old new e f w = record { started = tt; written = tt; says = w.says; moments = w.moments }
+
+pub writes_whole : {T E U F : Type 0} (was : List ℕ) (end : ℕ) (old new : FileView) (x : T) (y : U) → WritesStart {T = T} {E = E} was end old new (Ok x) → WritesStart {T = U} {E = F} was end old new (Ok y)
+writes_whole was end old new x y w = record { started = w.started; written = w.written; says = w.says; moments = w.moments }
+
+-- the chain behind the mark, by its answer
+pub chain_answers : (len : ℕ) (old mid new : FileView) (result : Result ℕ LogFault) → 9 < len → mid.content ≡ old.content → mid.calls ≡ one_more old.calls
+    → ((file : List ℕ) → old.content ≡ Some file → len ≡ length file → take 8 file ≡ mark) → EndAnswers len mid new result → ChainAnswers len old new result
+chain_answers len old mid new (Ok end) long same first head a = (
+  a.0,
+  if_some old.content _ (λ file told is.
+      let e = at_some mid.content file (λ f. len ≡ length f → EndsAt f end × (new.calls ≡ added mid.calls (gates_read f end))) (same ∙ told) a.1 is in
+      (head file told is, e.0, e.1 ∙ ap (λ n. added n (gates_read file end)) first ∙ added_twice old.calls 1 (gates_read file end))),
+)
+chain_answers len old mid new (Err Fault) long same first head a = tt
+chain_answers len old mid new (Err (BadChain p)) long same first head a =
+    if_some old.content _ (λ file told is. marked_file file (omega arith) (head file told is) ∙ at_some mid.content file (λ f. len ≡ length f → chain_of f ≡ bad_chain p) (same ∙ told) a is)
+chain_answers len old mid new (Err Shut) long same first head a = absurd a
+chain_answers len old mid new (Err BadHead) long same first head a = absurd a
+chain_answers len old mid new (Err (BadLength n)) long same first head a = absurd a
+chain_answers len old mid new (Err (Full n)) long same first head a = absurd a
+chain_answers len old mid new (Err Memory) long same first head a = absurd a

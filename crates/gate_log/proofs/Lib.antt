@@ -3,6 +3,7 @@ mod Appending
 mod Appends
 mod Begin
 mod Chain
+mod Counts
 mod Examples
 mod Fetch
 mod Follow
@@ -10,5 +11,6 @@ mod InOrder
 mod Rest
 mod Starts
 mod Steps
+mod Through
 mod Torn
 mod Walk

@@ -3,7 +3,7 @@ use Rattle.std.proofs.Common.{◌≡◌, ◌≢◌, ◌⊎◌, inl, inr, ◌<◌
 use Rattle.std.proofs.lemmas.Bool.{cases_eq}
 use Rattle.std.proofs.lemmas.List.{take_all, take-take, drop_all, get_or_at}
 use Rattle.disk_base.specs.Disk.{IsTorn, overwritten}
-use Rattle.gate_log.specs.LogFile.{mark, holds, bad_chain, chain_from, chain_of, contents_of, StandsFor, bodies_in, bodies_of, end_place, IsAtRest, IsRecord, record_behind, IsStaged, SaysTheSame}
+use Rattle.gate_log.specs.LogFile.{longest_body, mark, holds, bad_chain, chain_from, chain_of, contents_of, StandsFor, bodies_in, bodies_of, end_place, IsAtRest, IsRecord, record_behind, IsStaged, IsSameOrOpen}
 use Rattle.gate_log.specs.GateLog.{EndsAt}
 use Rattle.gate_log.proofs.Chain.{Walks}
 use Rattle.gate_log.proofs.Walk.{follow, walk_breaks, walk_end}
@@ -30,10 +30,10 @@ staged_whole was bodies body r =
 gate_size : (s c : List ℕ) (at : ℕ) → at < length s → IsTorn at 1 s c → length c ≡ length s
 gate_size s c at lt t = let a = t.no_shorter in let b = t.no_longer in omega arith
 
-pub opened_torn : (s c : List ℕ) (bodies : List (List ℕ)) (body : List ℕ) → IsStaged s bodies body → 1 ≤ length body → length body ≤ 4194400 → IsTorn (end_place bodies) 1 s c → IsAtRest c bodies ⊎ IsAtRest c (bodies ++ body ∷ [])
+pub opened_torn : (s c : List ℕ) (bodies : List (List ℕ)) (body : List ℕ) → IsStaged s bodies body → 1 ≤ length body → length body ≤ longest_body → IsTorn (end_place bodies) 1 s c → IsAtRest c bodies ⊎ IsAtRest c (bodies ++ body ∷ [])
 opened_torn s c bodies body st some few t = either s c bodies body st some few t.front t.back (gate_size s c (end_place bodies) st.at_rest.inside t)
 
-pub opened_whole : (s : List ℕ) (bodies : List (List ℕ)) (body : List ℕ) → IsStaged s bodies body → 1 ≤ length body → length body ≤ 4194400 → IsAtRest (overwritten s (end_place bodies) (1 ∷ [])) (bodies ++ body ∷ [])
+pub opened_whole : (s : List ℕ) (bodies : List (List ℕ)) (body : List ℕ) → IsStaged s bodies body → 1 ≤ length body → length body ≤ longest_body → IsAtRest (overwritten s (end_place bodies) (1 ∷ [])) (bodies ++ body ∷ [])
 opened_whole s bodies body st some few =
     let at = end_place bodies in
     let i = st.at_rest.inside in
@@ -45,7 +45,7 @@ opened_whole s bodies body st some few =
 
 -- an append: the gate with another byte than 1
 
-pub closed_whole : (s : List ℕ) (bodies : List (List ℕ)) (body : List ℕ) (gate : ℕ) → IsStaged s bodies body → 1 ≤ length body → length body ≤ 4194400 → gate ≢ 1 → IsAtRest (overwritten s (end_place bodies) (gate ∷ [])) bodies
+pub closed_whole : (s : List ℕ) (bodies : List (List ℕ)) (body : List ℕ) (gate : ℕ) → IsStaged s bodies body → 1 ≤ length body → length body ≤ longest_body → gate ≢ 1 → IsAtRest (overwritten s (end_place bodies) (gate ∷ [])) bodies
 closed_whole s bodies body gate st some few ne =
     let at = end_place bodies in
     let i = st.at_rest.inside in
@@ -68,7 +68,7 @@ head_whole was short =
 
 -- a start: the chain ends
 
-chain_bodies : (file : List ℕ) → 9 < length file → take 8 file ≡ mark → bodies_in (chain_of file) ≡ bodies_of file
+pub chain_bodies : (file : List ℕ) → 9 < length file → take 8 file ≡ mark → bodies_in (chain_of file) ≡ bodies_of file
 chain_bodies file long head = ap bodies_in (sym (marked_file file long head))
 
 pub ends_stands : (file : List ℕ) (end : ℕ) → 9 < length file → take 8 file ≡ mark → EndsAt file end → StandsFor file (bodies_of file)
@@ -118,10 +118,10 @@ module _ (was : List ℕ) (long : 9 < length was) (head : take 8 was ≡ mark) (
             inr (marked_file c (omega arith) mark_there ∙ walk_breaks (length c) c 8 (bodies_of was) end walk is_open none (omega arith))
       ]
 
-  pub close_torn : (c : List ℕ) → IsTorn end 1 was c → SaysTheSame was c
+  pub close_torn : (c : List ℕ) → IsTorn end 1 was c → IsSameOrOpen was c
   close_torn c t = record {
     same = λ gate. elim gate [ inl short ↦ absurd (omega arith) | inr before ↦ let is = ends_place was end long head e in absurd (omega arith) ];
-    else_broken = elim (le_or_lt (length c) end) [
+    same_or_open = elim (le_or_lt (length c) end) [
       | inl le ↦ inl (ap contents_of (sym (take_all end c le) ∙ t.front ∙ take_all end was (omega arith)))
       | inr lt ↦
           let no_longer = t.no_longer in

@@ -5,16 +5,16 @@ use Rattle.std.proofs.lemmas.Bool.{cases_eq}
 use Rattle.std.proofs.lemmas.Bool.Decides.{nat_tests}
 use Rattle.std.proofs.lemmas.List.Sums.{sum_by-cons}
 use Rattle.std.proofs.lemmas.List.{get_or_past}
-use Rattle.gate_log.specs.LogFile.{holds, bad_chain, is_open, length_at, next_place, body_at, preceded_by, chain_from, record_length, IsRecord}
+use Rattle.gate_log.specs.LogFile.{longest_body, holds, bad_chain, is_open, length_at, next_place, body_at, preceded_by, chain_from, record_length, IsRecord}
 use Rattle.gate_log.proofs.Chain.{Walks, at_record, at_closed, at_broken}
 
 pub record_or_none : (bytes : List ℕ) (end place : ℕ) → slice_index bytes place ≡ 1 → IsRecord bytes end place ⊎ (IsRecord bytes end place → ⊥)
-record_or_none bytes end place e = go (nat_le 1 (length_at bytes place)) (nat_le (length_at bytes place) 4194400) (nat_le (next_place bytes place) end) refl refl refl
+record_or_none bytes end place e = go (nat_le 1 (length_at bytes place)) (nat_le (length_at bytes place) longest_body) (nat_le (next_place bytes place) end) refl refl refl
   where
-    go : (x y z : Bool) → nat_le 1 (length_at bytes place) ≡ x → nat_le (length_at bytes place) 4194400 ≡ y → nat_le (next_place bytes place) end ≡ z → IsRecord bytes end place ⊎ (IsRecord bytes end place → ⊥)
+    go : (x y z : Bool) → nat_le 1 (length_at bytes place) ≡ x → nat_le (length_at bytes place) longest_body ≡ y → nat_le (next_place bytes place) end ≡ z → IsRecord bytes end place ⊎ (IsRecord bytes end place → ⊥)
     go true true true p q r = inl (record { open_gate = e; not_empty = grind (arith, nat_tests); not_long = grind (arith, nat_tests); inside = grind (arith, nat_tests) })
     go true true false p q r = inr (λ w. let i : next_place bytes place ≤ end = w.inside in grind (arith, nat_tests))
-    go true false z p q r = inr (λ w. let i : length_at bytes place ≤ 4194400 = w.not_long in grind (arith, nat_tests))
+    go true false z p q r = inr (λ w. let i : length_at bytes place ≤ longest_body = w.not_long in grind (arith, nat_tests))
     go false y z p q r = inr (λ w. let i : 1 ≤ length_at bytes place = w.not_empty in grind (arith, nat_tests))
 
 pub closed_past : (bytes : List ℕ) (place : ℕ) → length bytes ≤ place → slice_index bytes place ≢ 1

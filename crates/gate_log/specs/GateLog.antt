@@ -1,77 +1,173 @@
 -- What a log is seen as, and what its calls answer.
-use Rattle.std.specs.Prelude.{◌≡◌, ◌≢◌, ◌⊎◌, ℕ, ◌<◌, ◌≤◌, ◌+◌, ◌^◌, List, Option, Some, None, Result, Ok, Err, length, slice_index, if◌then◌else◌, nat_lt, IfOk, OnOk, IfSome, IsSomeAnd, take, [], ◌∷◌, ◌++◌}
-use Rattle.disk_base.specs.Disk.{Images, IsWithin, LeavesExactly, AtEachMoment}
-use Rattle.gate_log.specs.LogFile.{mark, contents_of, SaysTheSame, Contents, holds, bad_head, bad_chain, is_open, length_at, next_place, body_at, chain_of, IsEither, IsRecord, is_body_length, bodies_in, bodies_of, end_place, IsAtRest}
+use Rattle.std.specs.Prelude.{◌≡◌, ◌≢◌, ◌⊎◌, ℕ, ◌<◌, ◌≤◌, ◌+◌, ◌-◌, List, Option, Some, None, Result, Ok, Err, length, slice_index, slice_range, if◌then◌else◌, nat_lt, OnOk, IfOk, IfErr, IfSome, IsSome, IsSomeAnd, take, [], ◌∷◌, ◌++◌}
+use Rattle.disk_base.specs.Faults.{added, one_more, Rose}
+use Rattle.disk_base.specs.Disk.{Images, FileView, LeavesExactly, AtEachMoment, Lasts, CallsUpTo, OnlyReads, IsTorn, overwritten}
+use Rattle.gate_log.specs.LogFile.{mark, longest_body, longest_file, contents_of, holds, bad_head, bad_chain, is_open, length_at, next_place, body_at, chain_of, IsRecord, is_body_length, bodies_in, bodies_of, end_place, IsAtRest, IsBeforeOrAfter, IsSameOrOpen, open_record, started_file, start_calls}
 use Rattle.gate_log.specs.declared.device.Gate.{Gate}
 use Rattle.gate_log.specs.declared.fault.LogFault.{LogFault}
 use Rattle.gate_log.specs.declared.fault.LogFault.TheVariants.{Fault, Shut, BadHead, BadChain, BadLength, Full, Memory}
 
+-- ---- a log
+
 -- its file, and where its next record will stand, which a log that is shut doesn't say
-pub record Held (E : Type 0) : Type 0 where
+pub record LogOver (E : Type 0) : Type 0 where
   pub file : E
   pub end : Option ℕ
 
--- A started log: its file is at rest with these bodies, its end is behind them, and a crash leaves the file as it is.
+-- the same by what its file is seen as
+pub record LogView : Type 1 where
+  pub file : FileView
+  pub end : Option ℕ
+
+abbrev pub shown : {E : Type 0} → (E → FileView) → LogOver E → LogView
+shown seen log = record { file = seen log.file; end = log.end }
+
+-- A started log of these bodies: its file is at rest with them, its end is behind them, and a crash leaves the file as it is.
 pub record IsStarted (images : Images) (end : ℕ) (bodies : List (List ℕ)) (file : List ℕ) : Type 0 where
   pub at_rest : IsAtRest file bodies
   pub end_is : end ≡ end_place bodies
   pub exactly : LeavesExactly file images
 
--- what always holds of a log: while it is started over a file that tells, that file is at rest
-abbrev pub IsSettled : {E : Type 0} → (E → Option (List ℕ)) → (E → Images) → E → Option ℕ → Type 0
-IsSettled content may_leave file end = IfSome end (λ place. IfSome (content file) (λ bytes. IsStarted (may_leave file) place (bodies_of bytes) bytes))
+-- the log is started, and it has these bodies
+abbrev pub HasBodies : LogView → List (List ℕ) → Type 0
+HasBodies log bodies = IsSomeAnd log.end (λ end. IsSomeAnd log.file.content (IsStarted log.file.images end bodies))
 
--- calls that write nothing: the file tells the same, and a crash at any moment leaves what one might have left before
-pub record OnlyReads {E : Type 0} (content : E → Option (List ℕ)) (may_leave : E → Images) (moment : E → ℕ) (left_since : E → ℕ → Images) (old new : E) : Type 0 where
-  pub same : content new ≡ content old
-  pub within : IsWithin (may_leave new) (may_leave old)
-  pub moments : AtEachMoment moment left_since old new (may_leave old)
+-- what holds of the bodies of a log that is started over a file that tells
+abbrev pub IfStarted : LogView → (List (List ℕ) → Type 0) → Type 0
+IfStarted log P = IfSome log.end (λ _. IfSome log.file.content (λ file. P (bodies_of file)))
+
+-- what always holds of a log: while it is started over a file that tells, that file is at rest
+abbrev pub IsSettled : FileView → Option ℕ → Type 0
+IsSettled file end = IfSome end (λ place. IfSome file.content (λ bytes. IsStarted file.images place (bodies_of bytes) bytes))
+
+-- ---- what every call keeps
+
+-- the count of faults rises exactly where the answer is a fault
+abbrev pub CountsFault : {T : Type 0} → ℕ → ℕ → Result T LogFault → Type 0
+CountsFault before now (Err Fault) = Rose before now
+CountsFault before now _ = now ≡ before
+
+pub record LogCall {T : Type 0} (old new : FileView) (result : Result T LogFault) : Type 0 where
+  pub lasts : Lasts old new
+  pub counts : CountsFault old.faults new.faults result
+
+-- calls that only read
+pub record LogReads {T : Type 0} (old new : FileView) (result : Result T LogFault) : Type 0 where
+  pub call : LogCall old new result
+  pub only : OnlyReads old new
+
+-- ---- start
 
 -- what a start answers, by what the file says
-abbrev pub StartAnswers : {T : Type 0} → Contents → Result T LogFault → Type 0
-StartAnswers contents (Ok _) = contents ≡ holds (bodies_in contents)
-StartAnswers contents (Err BadHead) = contents ≡ bad_head
-StartAnswers contents (Err (BadChain place)) = contents ≡ bad_chain place
-StartAnswers contents (Err Fault) = Unit {0}
-StartAnswers contents (Err Memory) = Unit {0}
-StartAnswers contents (Err _) = ⊥
+abbrev pub StartAnswers : {T : Type 0} → Option (List ℕ) → Result T LogFault → Type 0
+StartAnswers content (Ok _) = IfSome content (λ file. contents_of file ≡ holds (bodies_of file))
+StartAnswers content (Err BadHead) = IfSome content (λ file. contents_of file ≡ bad_head)
+StartAnswers content (Err (BadChain place)) = IfSome content (λ file. contents_of file ≡ bad_chain place)
+StartAnswers content (Err Fault) = Unit {0}
+StartAnswers content (Err Memory) = Unit {0}
+StartAnswers content (Err _) = ⊥
 
--- the causes for which a start gives up
-abbrev pub IsStartFault : LogFault → Type 0
-IsStartFault Fault = Unit {0}
-IsStartFault BadHead = Unit {0}
-IsStartFault (BadChain place) = Unit {0}
-IsStartFault Memory = Unit {0}
-IsStartFault _ = ⊥
-
--- what holds where the file hasn't failed
-abbrev pub UnlessFault : LogFault → Type 0 → Type 0
-UnlessFault Fault claim = Unit {0}
-UnlessFault _ claim = claim
+-- How a log stands after a start, and that one which doesn't fail writes nothing but at Ok: where memory runs out it
+-- is as before, and after each other refusal it is shut.
+abbrev pub StartEnds : LogView → LogView → Result (Unit {0}) LogFault → Type 0
+StartEnds old new (Ok _) = IsSome new.end
+StartEnds old new (Err Fault) = new.end ≡ None
+StartEnds old new (Err Memory) = (new.end ≡ old.end) × OnlyReads old.file new.file
+StartEnds old new (Err _) = (new.end ≡ None) × OnlyReads old.file new.file
 
 -- A start over a file with these bytes.
-pub record StartsOver {E : Type 0} (content : E → Option (List ℕ)) (may_leave : E → Images) (moment : E → ℕ) (left_since : E → ℕ → Images) (bytes : List ℕ) (old new : E) (result : Result ℕ LogFault) : Type 0 where
-  -- it answers what they say
-  pub answer : StartAnswers (contents_of bytes) result
-  -- at Ok the log holds the bodies that they stand for
-  pub started : IfOk result (λ end. IsSomeAnd (content new) (IsStarted (may_leave new) end (bodies_of bytes)))
-  -- afterwards the file says the same
-  pub says : IsSomeAnd (content new) (SaysTheSame bytes)
+pub record StartsWith {T : Type 0} (file : List ℕ) (old new : LogView) (result : Result T LogFault) : Type 0 where
+  -- at Ok the log has the bodies that they stand for, these are the bytes of its file, and so many calls were made on it
+  pub started : OnOk result (HasBodies new (bodies_of file))
+  pub written : OnOk result (new.file.content ≡ Some (started_file file))
+  pub counted : OnOk result (new.file.calls ≡ added old.file.calls (start_calls file))
+  -- whatever it answers, the file says the same
+  pub says : IsSomeAnd new.file.content (IsSameOrOpen file)
   -- and so does what a crash at any moment leaves, if it isn't what one might have left before
-  pub moments : AtEachMoment moment left_since old new (λ image. may_leave old image ⊎ SaysTheSame bytes image)
+  pub any_moment : AtEachMoment old.file new.file (λ image. old.file.images image ⊎ IsSameOrOpen file image)
 
--- how a log stands after a start that gave up: want of memory changes nothing
-abbrev pub end_after : LogFault → Option ℕ → Option ℕ
-end_after Memory end = end
-end_after _ end = None
+-- the same where the file tells its bytes
+abbrev pub Starts : {T : Type 0} → LogView → LogView → Result T LogFault → Type 0
+Starts old new result = IfSome old.file.content (λ file. StartsWith file old new result)
+
+-- ---- append
 
 -- why a log that is shut or ends at this place takes no body of so many bytes
 abbrev pub refusal_of : ℕ → Option ℕ → Option LogFault
 refusal_of count None = Some (if is_body_length count then Shut else BadLength count)
 refusal_of count (Some end) =
     if is_body_length count
-    then (if nat_lt (2 ^ 40) (end + 6 + count) then Some (Full end) else None)
+    then (if nat_lt longest_file (end + 6 + count) then Some (Full end) else None)
     else Some (BadLength count)
+
+-- a call that is refused for this cause changes nothing
+abbrev pub IsRefused : {E : Type 0} → Option LogFault → LogOver E → LogOver E → Result ℕ LogFault → Type 0
+IsRefused cause old new result = IfSome cause (λ fault. (result ≡ Err fault) × (new ≡ old))
+
+-- What an append answers, and how the log stands then: at Ok it has made four calls, and none where memory ran out.
+abbrev pub AppendAnswers : ℕ → LogView → LogView → Result ℕ LogFault → Type 0
+AppendAnswers count old new (Ok place) = (old.end ≡ Some place) × (new.end ≡ Some (place + 5 + count)) × (new.file.calls ≡ added old.file.calls 4)
+AppendAnswers count old new (Err Fault) = (new.end ≡ None) × CallsUpTo 4 old.file new.file
+AppendAnswers count old new (Err Memory) = (new.end ≡ old.end) × (new.file.calls ≡ old.file.calls) × OnlyReads old.file new.file
+AppendAnswers count old new (Err fault) = refusal_of count old.end ≡ Some fault
+
+-- An append of a body to a log of these bodies.
+pub record AppendsTo {T : Type 0} (bodies : List (List ℕ)) (body : List ℕ) (old new : LogView) (result : Result T LogFault) : Type 0 where
+  -- at Ok the log has the body behind those it had, and its record stands over what was there, with a closed gate behind it
+  pub added_body : OnOk result (HasBodies new (bodies ++ body ∷ []))
+  pub written : OnOk result (IfSome old.file.content (λ was. new.file.content ≡ Some (overwritten was (end_place bodies) (open_record body))))
+  -- whatever it answers, the file is a log of the bodies before or after
+  pub stands : IsSomeAnd new.file.content (IsBeforeOrAfter bodies body)
+  -- and so is what a crash at any moment leaves
+  pub any_moment : AtEachMoment old.file new.file (IsBeforeOrAfter bodies body)
+
+-- the same where the log is started and its file tells
+abbrev pub Appends : {T : Type 0} → List ℕ → LogView → LogView → Result T LogFault → Type 0
+Appends body old new result = IfStarted old (λ bodies. AppendsTo bodies body old new result)
+
+-- ---- read
+
+-- a body that may be one, and the next place, as a read gives them at a place
+pub record IsFound (place : ℕ) (found : List ℕ × ℕ) : Type 0 where
+  pub not_empty : 1 ≤ length found.0
+  pub not_long : length found.0 ≤ longest_body
+  pub next_is : found.1 ≡ place + 5 + length found.0
+
+-- what a read at a place answers of a log with this end: over a file that tells, exactly what stands there
+abbrev pub ReadAnswers : Option (List ℕ) → Option ℕ → ℕ → Result (List ℕ × ℕ) LogFault → Type 0
+ReadAnswers content end place (Ok found) = IsFound place found × IsSomeAnd end (λ e. (found.1 ≤ e) × IfSome content (λ file. IsRecord file e place × (found.0 ≡ body_at file place)))
+ReadAnswers content end place (Err Shut) = end ≡ None
+ReadAnswers content end place (Err (BadChain at)) = (at ≡ place) × IsSomeAnd end (λ e. IfSome content (λ file. IsRecord file e place → ⊥))
+ReadAnswers content end place (Err Fault) = IsSome end
+ReadAnswers content end place (Err Memory) = IsSome end
+ReadAnswers content end place (Err _) = ⊥
+
+-- the same inside an end that isn't past the end of the file
+abbrev pub PlaceAnswers : Option (List ℕ) → ℕ → ℕ → Result (List ℕ × ℕ) LogFault → Type 0
+PlaceAnswers content end place (Ok found) = IsFound place found × (found.1 ≤ end) × IfSome content (λ file. end ≤ length file → IsRecord file end place × (found.0 ≡ body_at file place))
+PlaceAnswers content end place (Err (BadChain at)) = (at ≡ place) × IfSome content (λ file. end ≤ length file → IsRecord file end place → ⊥)
+PlaceAnswers content end place (Err Fault) = Unit {0}
+PlaceAnswers content end place (Err Memory) = Unit {0}
+PlaceAnswers content end place (Err _) = ⊥
+
+-- a read that is answered by Ok makes two calls, and none makes more
+abbrev pub ReadCalls : {T : Type 0} → FileView → FileView → Result T LogFault → Type 0
+ReadCalls old new (Ok _) = new.calls ≡ added old.calls 2
+ReadCalls old new (Err _) = CallsUpTo 2 old new
+
+-- a read finds this body and this next place, if the file doesn't fail and there is memory
+abbrev pub FindsBody : List ℕ → ℕ → Result (List ℕ × ℕ) LogFault → Type 0
+FindsBody body next (Ok found) = (found.0 ≡ body) × (found.1 ≡ next)
+FindsBody body next (Err Fault) = Unit {0}
+FindsBody body next (Err Memory) = Unit {0}
+FindsBody body next (Err _) = ⊥
+
+-- each body is found at its place
+abbrev pub FindsInOrder : List (List ℕ) → ℕ → Result (List ℕ × ℕ) LogFault → Type 0
+FindsInOrder bodies place result = (before : List (List ℕ)) (body : List ℕ) (after : List (List ℕ)) →
+    bodies ≡ before ++ body ∷ after → place ≡ end_place before → FindsBody body (end_place (before ++ body ∷ [])) result
+
+-- ---- the steps
 
 -- what a log reads at the place of a record
 pub record IsGateAt (file : List ℕ) (place : ℕ) (gate : Gate) : Type 0 where
@@ -88,59 +184,110 @@ FindsAt file end place (Some next) = IsRecord file end place × (next ≡ next_p
 abbrev pub IsBroken : List ℕ → ℕ → ℕ → Type 0
 IsBroken file end place = (slice_index file place ≡ 1) × (IsRecord file end place → ⊥)
 
+-- what stands at a place before an end of a file that is no shorter
+abbrev pub NextAnswers : Option (List ℕ) → ℕ → ℕ → Result (Option ℕ) LogFault → Type 0
+NextAnswers content end place (Ok found) =
+    IfSome found (λ next. (place + 6 ≤ next) × (next ≤ end) × (next ≤ place + 5 + longest_body))
+    × IfSome content (λ file. end ≤ length file → FindsAt file end place found)
+NextAnswers content end place (Err (BadChain at)) = (at ≡ place) × IfSome content (λ file. end ≤ length file → IsBroken file end place)
+NextAnswers content end place (Err Fault) = Unit {0}
+NextAnswers content end place (Err _) = ⊥
+
 -- the chain holds bodies and ends at a gate that isn't open
 pub record EndsAt (file : List ℕ) (end : ℕ) : Type 0 where
   pub chain : chain_of file ≡ holds (bodies_in (chain_of file))
   pub end_is : end ≡ end_place (bodies_in (chain_of file))
   pub closed : slice_index file end ≢ 1
 
--- a call over a file gives up because the file failed or because its chain is broken at a place
-abbrev pub IsFaultOrBroken : LogFault → Type 0
-IsFaultOrBroken Fault = Unit {0}
-IsFaultOrBroken (BadChain place) = Unit {0}
-IsFaultOrBroken _ = ⊥
+-- how many gates of a chain are read that ends at this place: those of its records and the closed one, where the file has it
+abbrev pub gates_read : List ℕ → ℕ → ℕ
+gates_read file end = length (bodies_in (chain_of file)) + (if nat_lt end (length file) then 1 else 0)
 
--- what the reading of a marked file's chain answers
-abbrev pub ChainAnswers : List ℕ → Result ℕ LogFault → Type 0
-ChainAnswers file (Ok end) = (take 8 file ≡ mark) × EndsAt file end
-ChainAnswers file (Err BadHead) = contents_of file ≡ bad_head
-ChainAnswers file (Err (BadChain place)) = contents_of file ≡ bad_chain place
-ChainAnswers file (Err Fault) = Unit {0}
-ChainAnswers file (Err _) = ⊥
+-- where the chain of a file of so many bytes ends; each gate is read by one call
+abbrev pub EndAnswers : ℕ → FileView → FileView → Result ℕ LogFault → Type 0
+EndAnswers len old new (Ok end) = (end ≤ len) × IfSome old.content (λ file. len ≡ length file → EndsAt file end × (new.calls ≡ added old.calls (gates_read file end)))
+EndAnswers len old new (Err (BadChain place)) = IfSome old.content (λ file. len ≡ length file → chain_of file ≡ bad_chain place)
+EndAnswers len old new (Err Fault) = Unit {0}
+EndAnswers len old new (Err _) = ⊥
 
--- An append of a body at a place, over a file with these bytes.
-pub record AppendsTo {E : Type 0} (content : E → Option (List ℕ)) (may_leave : E → Images) (moment : E → ℕ) (left_since : E → ℕ → Images) (bytes body : List ℕ) (place : ℕ) (old new : E) (result : Result (Unit {0}) LogFault) : Type 0 where
-  -- at Ok the log holds the body behind those it had
-  pub appended : OnOk result (IsSomeAnd (content new) (IsStarted (may_leave new) (place + 5 + length body) (bodies_of bytes ++ body ∷ [])))
-  -- whatever it answers, the file stands for the list before or after
-  pub stands : IsSomeAnd (content new) (IsEither (bodies_of bytes) body)
-  -- and so does what a crash at any moment leaves
-  pub moments : AtEachMoment moment left_since old new (IsEither (bodies_of bytes) body)
+-- so many bytes from a place on, or nothing where the file ends before them
+abbrev pub PieceAnswers : ℕ → ℕ → FileView → FileView → Result (Option (List ℕ)) LogFault → Type 0
+PieceAnswers at count old new (Ok found) =
+    (new.calls ≡ one_more old.calls) × IfSome found (λ piece. length piece ≡ count)
+    × IfSome old.content (λ file. at + count ≤ length file → IsSomeAnd found (λ piece. piece ≡ slice_range file at (at + count)))
+PieceAnswers at count old new (Err Fault) = new.calls ≡ one_more old.calls
+PieceAnswers at count old new (Err Memory) = new.calls ≡ old.calls
+PieceAnswers at count old new (Err _) = ⊥
 
--- a call that writes gives up because the file failed or for want of memory
-abbrev pub IsFaultOrMemory : LogFault → Type 0
-IsFaultOrMemory Fault = Unit {0}
-IsFaultOrMemory Memory = Unit {0}
-IsFaultOrMemory _ = ⊥
+-- a call that writes makes so many calls on the device, none more where one fails, and none where memory runs out
+abbrev pub WriteAnswers : {T : Type 0} → ℕ → FileView → FileView → Result T LogFault → Type 0
+WriteAnswers count old new (Ok _) = new.calls ≡ added old.calls count
+WriteAnswers count old new (Err Fault) = CallsUpTo count old new
+WriteAnswers count old new (Err Memory) = (new.calls ≡ old.calls) × OnlyReads old new
+WriteAnswers count old new (Err _) = ⊥
 
--- what a read at a place answers, of a log that ends at this place
-abbrev pub ReadAnswers : List ℕ → ℕ → ℕ → Result (List ℕ × ℕ) LogFault → Type 0
-ReadAnswers file end place (Ok found) = IsRecord file end place × (found.0 ≡ body_at file place) × (found.1 ≡ next_place file place)
-ReadAnswers file end place (Err (BadChain at)) = (at ≡ place) × (IsRecord file end place → ⊥)
-ReadAnswers file end place (Err Fault) = Unit {0}
-ReadAnswers file end place (Err Memory) = Unit {0}
-ReadAnswers file end place (Err _) = ⊥
+-- what holds where the file hasn't failed
+abbrev pub UnlessFault : LogFault → Type 0 → Type 0
+UnlessFault Fault claim = Unit {0}
+UnlessFault _ claim = claim
 
--- a read finds this body and this next place, if the file doesn't fail and there is memory
-abbrev pub FindsBody : List ℕ → ℕ → Result (List ℕ × ℕ) LogFault → Type 0
-FindsBody body next (Ok found) = (found.0 ≡ body) × (found.1 ≡ next)
-FindsBody body next (Err Fault) = Unit {0}
-FindsBody body next (Err Memory) = Unit {0}
-FindsBody body next (Err _) = ⊥
+-- what the reading of mark and chain of such a file answers; the mark is read by one call
+abbrev pub ChainAnswers : ℕ → FileView → FileView → Result ℕ LogFault → Type 0
+ChainAnswers len old new (Ok end) =
+    (end ≤ len) × IfSome old.content (λ file. len ≡ length file → (take 8 file ≡ mark) × EndsAt file end × (new.calls ≡ added old.calls (1 + gates_read file end)))
+ChainAnswers len old new (Err BadHead) = IfSome old.content (λ file. len ≡ length file → contents_of file ≡ bad_head)
+ChainAnswers len old new (Err (BadChain place)) = IfSome old.content (λ file. len ≡ length file → contents_of file ≡ bad_chain place)
+ChainAnswers len old new (Err Fault) = Unit {0}
+ChainAnswers len old new (Err _) = ⊥
 
--- the causes for which a read of a started log at a place gives up
-abbrev pub IsReadFault : ℕ → LogFault → Type 0
-IsReadFault place Fault = Unit {0}
-IsReadFault place (BadChain at) = at ≡ place
-IsReadFault place Memory = Unit {0}
-IsReadFault place _ = ⊥
+-- A write at a place of a file with these bytes, and a sync: at Ok the bytes stand there for good, and a crash at any
+-- moment leaves a file in which any part of the write was done.
+pub record IsThrough {T E : Type 0} (at : ℕ) (bytes was : List ℕ) (old new : FileView) (result : Result T E) : Type 0 where
+  pub settled : OnOk result ((new.content ≡ Some (overwritten was at bytes)) × LeavesExactly (overwritten was at bytes) new.images)
+  pub torn : IsSomeAnd new.content (IsTorn at (length bytes) was)
+  pub moments : LeavesExactly was old.images → AtEachMoment old new (IsTorn at (length bytes) was)
+
+abbrev pub WritesThrough : {T E : Type 0} → ℕ → List ℕ → FileView → FileView → Result T E → Type 0
+WritesThrough at bytes old new result = IfSome old.content (λ was. IsThrough at bytes was old new result)
+
+-- The file is settled, and how long it is. That takes two calls.
+abbrev pub SettleAnswers : FileView → FileView → Result ℕ LogFault → Type 0
+SettleAnswers old new (Ok len) = (9 ≤ new.room) × (2 ≤ new.spare) × (new.calls ≡ added old.calls 2) × IfSome old.content (λ bytes. (len ≡ length bytes) × LeavesExactly bytes new.images)
+SettleAnswers old new (Err Fault) = Unit {0}
+SettleAnswers old new (Err Memory) = Unit {0}
+SettleAnswers old new (Err _) = ⊥
+
+-- the write of a start over a file with these bytes, which makes it the file of a log that ends at this place
+pub record WritesStart {T E : Type 0} (file : List ℕ) (end : ℕ) (old new : FileView) (result : Result T E) : Type 0 where
+  pub started : OnOk result (IsSomeAnd new.content (IsStarted new.images end (bodies_of file)))
+  pub written : OnOk result (new.content ≡ Some (started_file file))
+  pub says : IsSomeAnd new.content (IsSameOrOpen file)
+  pub moments : LeavesExactly file old.images → AtEachMoment old new (IsSameOrOpen file)
+
+abbrev pub StartWrites : {T E : Type 0} → ℕ → FileView → FileView → Result T E → Type 0
+StartWrites end old new result = IfSome old.content (λ file. WritesStart file end old new result)
+
+-- a start over a file with these bytes, in which so many calls were made before; it answers where the log ends
+pub record IsStart (before : ℕ) (file : List ℕ) (old new : FileView) (result : Result ℕ LogFault) : Type 0 where
+  pub started : IfOk result (λ end. IsSomeAnd new.content (IsStarted new.images end (bodies_of file)))
+  pub written : OnOk result (new.content ≡ Some (started_file file))
+  pub counted : OnOk result (new.calls ≡ added old.calls (start_calls file - before))
+  pub says : IsSomeAnd new.content (IsSameOrOpen file)
+  pub moments : AtEachMoment old new (λ image. old.images image ⊎ IsSameOrOpen file image)
+
+-- What a start answers, that it writes nothing where it gives up for another cause than a fault, and what it does to a
+-- file that tells.
+pub record StartsOver (before : ℕ) (old new : FileView) (result : Result ℕ LogFault) : Type 0 where
+  pub answer : StartAnswers old.content result
+  pub unwritten : IfErr result (λ fault. UnlessFault fault (OnlyReads old new))
+  pub told : IfSome old.content (λ file. IsStart before file old new result)
+
+-- an append of a body at a place, over a file with these bytes and bodies
+pub record IsAppend {T E : Type 0} (bodies : List (List ℕ)) (body : List ℕ) (place : ℕ) (was : List ℕ) (old new : FileView) (result : Result T E) : Type 0 where
+  pub appended : OnOk result (IsSomeAnd new.content (IsStarted new.images (place + 5 + length body) (bodies ++ body ∷ [])))
+  pub written : OnOk result (new.content ≡ Some (overwritten was place (open_record body)))
+  pub stands : IsSomeAnd new.content (IsBeforeOrAfter bodies body)
+  pub moments : AtEachMoment old new (IsBeforeOrAfter bodies body)
+
+abbrev pub AppendsAt : {T E : Type 0} → ℕ → List ℕ → FileView → FileView → Result T E → Type 0
+AppendsAt place body old new result = IfSome old.content (λ was. IsAppend (bodies_of was) body place was old new result)

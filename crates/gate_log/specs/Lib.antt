@@ -1,2 +1,3 @@
 pub mod GateLog
 pub mod LogFile
+pub mod LogLaws

@@ -3,7 +3,7 @@
 -- A file begins with a mark of eight bytes. From place 8 on it is a chain of records: at a record's place stands a gate byte,
 -- behind it the length of the body in four bytes, the most significant first, and then the body. The next place is the one
 -- behind the body. A gate is open where its byte is 1.
-use Rattle.std.specs.Prelude.{◌≡◌, ◌≢◌, ◌⊎◌, ◌<◌, ◌≤◌, ℕ, suc, zero, ◌+◌, Bool, ◌&&◌, ◌==◌, nat_le, if◌then◌else◌, List, [], ◌∷◌, ◌++◌, length, take, drop, slice_index, slice_range, sum_by, bytes_eq}
+use Rattle.std.specs.Prelude.{◌≡◌, ◌≢◌, ◌⊎◌, ◌<◌, ◌≤◌, ℕ, suc, zero, ◌+◌, ◌^◌, Bool, ◌&&◌, ◌==◌, nat_le, nat_lt, if◌then◌else◌, List, [], ◌∷◌, ◌++◌, length, take, drop, slice_index, slice_range, sum_by, bytes_eq}
 use Rattle.std.specs.Int.{w32, from_be_bytes, to_be_bytes}
 
 -- the text BLOBLOG1
@@ -30,9 +30,16 @@ next_place bytes place = place + 5 + length_at bytes place
 abbrev pub body_at : List ℕ → ℕ → List ℕ
 body_at bytes place = slice_range bytes (place + 5) (next_place bytes place)
 
--- a body has 1 to 4,194,400 bytes
+-- how many bytes a body has at most, and how many a file
+abbrev pub longest_body : ℕ
+longest_body = 4194400
+
+abbrev pub longest_file : ℕ
+longest_file = 2 ^ 40
+
+-- a body isn't empty and not too long
 abbrev pub is_body_length : ℕ → Bool
-is_body_length count = nat_le 1 count && nat_le count 4194400
+is_body_length count = nat_le 1 count && nat_le count longest_body
 
 -- the record at a place has a body's length and ends inside the first `end` bytes
 abbrev pub is_whole : List ℕ → ℕ → ℕ → Bool
@@ -67,10 +74,6 @@ contents_of bytes =
 abbrev pub StandsFor : List ℕ → List (List ℕ) → Type 0
 StandsFor file bodies = contents_of file ≡ holds bodies
 
--- an image that a crash left stands for the bodies, without one more or with it at the end
-abbrev pub IsBeforeOrAfter : List (List ℕ) → List ℕ → List ℕ → Type 0
-IsBeforeOrAfter bodies body image = StandsFor image bodies ⊎ StandsFor image (bodies ++ body ∷ [])
-
 -- the bodies of a file that stands for some
 abbrev pub bodies_in : Contents → List (List ℕ)
 bodies_in (holds bodies) = bodies
@@ -99,7 +102,7 @@ pub record IsAtRest (file : List ℕ) (bodies : List (List ℕ)) : Type 0 where
 pub record IsRecord (file : List ℕ) (end place : ℕ) : Type 0 where
   pub open_gate : slice_index file place ≡ 1
   pub not_empty : 1 ≤ length_at file place
-  pub not_long : length_at file place ≤ 4194400
+  pub not_long : length_at file place ≤ longest_body
   pub inside : next_place file place ≤ end
 
 -- behind the gate of a record: the length of its body, the body and a closed gate, and then other bytes
@@ -117,13 +120,37 @@ pub record IsStaged (file : List ℕ) (bodies : List (List ℕ)) (body : List �
 abbrev pub HasGate : List ℕ → Type 0
 HasGate file = (length file ≤ 9) ⊎ (end_place (bodies_of file) < length file)
 
--- What a start may turn a file into: one that says the same. Where the gate behind the records was missing, a write of it
--- that was cut short may have left an open one.
-pub record SaysTheSame (file image : List ℕ) : Type 0 where
-  pub same : HasGate file → (contents_of image ≡ contents_of file) × HasGate image
-  pub else_broken : (contents_of image ≡ contents_of file) ⊎ (contents_of image ≡ bad_chain (length file))
+-- the file of a log of these bodies, as a crash may leave it too: it stands for them, and no gate is missing behind them
+pub record IsLogOf (file : List ℕ) (bodies : List (List ℕ)) : Type 0 where
+  pub stands : StandsFor file bodies
+  pub gate : HasGate file
 
--- an image that stands for the bodies, without one more or with it at the end, and has a gate behind them
-pub record IsEither (bodies : List (List ℕ)) (body image : List ℕ) : Type 0 where
-  pub stands : IsBeforeOrAfter bodies body image
-  pub gate : HasGate image
+-- a file is a log of the bodies, without one more or with it at the end
+abbrev pub IsBeforeOrAfter : List (List ℕ) → List ℕ → List ℕ → Type 0
+IsBeforeOrAfter bodies body file = IsLogOf file bodies ⊎ IsLogOf file (bodies ++ body ∷ [])
+
+-- the record of a body with its gate open, and a closed gate behind it
+abbrev pub open_record : List ℕ → List ℕ
+open_record body = 1 ∷ record_behind body []
+
+-- What a start may turn a file into while it writes: one that says the same. Where the gate behind the records was
+-- missing, a write of it that was cut short may have left an open one with no record.
+pub record IsSameOrOpen (file image : List ℕ) : Type 0 where
+  pub same : HasGate file → (contents_of image ≡ contents_of file) × HasGate image
+  pub same_or_open : (contents_of image ≡ contents_of file) ⊎ (contents_of image ≡ bad_chain (length file))
+
+-- What a start that answers Ok makes of a file: the head of an empty log where it has at most nine bytes, and else what
+-- it was, with a closed gate behind it where its records end with it.
+abbrev pub started_file : List ℕ → List ℕ
+started_file file =
+    if nat_le (length file) 9
+    then mark ++ 0 ∷ []
+    else (if nat_lt (end_place (bodies_of file)) (length file) then file else file ++ 0 ∷ [])
+
+-- How many calls on the device a start makes that answers Ok: it syncs and asks for the length. Then it writes the head
+-- and syncs, or it reads the mark and each gate, and where none stands behind the records it writes one and syncs.
+abbrev pub start_calls : List ℕ → ℕ
+start_calls file =
+    if nat_le (length file) 9
+    then 4
+    else (if nat_lt (end_place (bodies_of file)) (length file) then 4 + length (bodies_of file) else 5 + length (bodies_of file))

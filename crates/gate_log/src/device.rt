@@ -1,18 +1,16 @@
 //! The calls that a log makes on its file.
 
-ghost use Rattle.std.specs.Prelude.{◌≡◌, ◌≢◌, ◌⊎◌, ◌+◌, ◌-◌, ◌<◌, ◌≤◌, ◌^◌, ◌++◌, ◌∷◌, [], ◌&&◌, IsTrue, Bool, true, nat_le, nat_lt, List, Some, length, take, drop, slice_index, slice_range, IfOk, OnOk, OnErr, IfErr, IfSome, IsSomeAnd, is_some, IsErrOf, MatchResult, bytes_eq, ℕ, Err};
-ghost use Rattle.std.specs.Int.{w32, to_be_bytes};
-ghost use Rattle.gate_log.specs.declared.fault.LogFault.TheVariants.{Fault, BadChain};
-ghost use Rattle.disk_base.specs.Faults.{HasCause, Rose};
-ghost use Rattle.disk_base.specs.Disk.{LeavesExactly, AtEachMoment, IsTorn, overwritten};
-ghost use Rattle.gate_log.specs.LogFile.{mark, is_open, length_at, is_body_length, contents_of, StandsFor, bodies_of, end_place, IsAtRest, IsRecord, IsStaged, HasGate, SaysTheSame, record_behind, bad_chain, chain_of};
-ghost use Rattle.gate_log.specs.GateLog.{OnlyReads, IsGateAt, FindsAt, IsBroken, EndsAt, IsFaultOrBroken};
+ghost use Rattle.std.specs.Prelude.{◌≡◌, ◌≢◌, ◌+◌, ◌<◌, ◌≤◌, ◌&&◌, nat_le, nat_lt, length, take, IfOk, IfSome, bytes_eq};
+ghost use Rattle.disk_base.specs.Faults.{one_more};
+ghost use Rattle.disk_base.specs.Disk.{Reads, Calls};
+ghost use Rattle.gate_log.specs.LogFile.{mark, is_open, length_at, is_body_length};
+ghost use Rattle.gate_log.specs.GateLog.{LogReads, IsGateAt, NextAnswers, EndAnswers, WritesThrough};
 
 use crate::LogFault;
 use disk_base::{Extent, Failed};
 
-/// The bytes with which the file of a log begins.
-const MARK: [u8; 8] = *b"BLOBLOG1";
+/// The file of an empty log: the mark with which the file of each log begins, and a closed gate.
+pub const EMPTY: [u8; 9] = *b"BLOBLOG1\0";
 
 /// The place of the first record.
 pub const FIRST: u64 = 8;
@@ -56,12 +54,8 @@ fn gate_in(head: &[u8; 5], count: usize) -> Gate
 
 // Reads the gate and the length at a place. Where the file ends before them, the gate is closed or the length is 0.
 pub fn read_gate<E: Extent>(file: &mut E, place: u64) -> Result<Gate, Failed>
-    ensures gate { IfOk result (λ gate. IfSome (E.content file.old) (λ bytes. IsGateAt bytes place gate)) }
-    ensures reads { OnlyReads E.content E.may_leave E.moment E.left_since file.old file.new }
-    ensures room { E.room file.old ≤ E.room file.new }
-    ensures spare { E.spare file.old ≤ E.spare file.new }
-    ensures cause { HasCause (E.file_faults file.old) (E.file_faults file.new) result }
-    ensures quiet { E.file_is_quiet file.new ≡ E.file_is_quiet file.old }
+    ensures gate { IfOk result (λ gate. IfSome (E.seen file.old).content (λ bytes. IsGateAt bytes place gate)) }
+    ensures reads { Reads (E.seen file.old) (E.seen file.new) result }
 {
     let mut head = [0u8; 5];
     let count = file.read_at(place, &mut head)?;
@@ -70,31 +64,20 @@ pub fn read_gate<E: Extent>(file: &mut E, place: u64) -> Result<Gate, Failed>
 
 // Whether the file begins with the mark of a log.
 pub fn has_mark<E: Extent>(file: &mut E) -> Result<bool, Failed>
-    ensures mark { IfOk result (λ is_there. IfSome (E.content file.old) (λ bytes. 8 ≤ length bytes → is_there ≡ bytes_eq (take 8 bytes) mark)) }
-    ensures reads { OnlyReads E.content E.may_leave E.moment E.left_since file.old file.new }
-    ensures room { E.room file.old ≤ E.room file.new }
-    ensures spare { E.spare file.old ≤ E.spare file.new }
-    ensures cause { HasCause (E.file_faults file.old) (E.file_faults file.new) result }
-    ensures quiet { E.file_is_quiet file.new ≡ E.file_is_quiet file.old }
+    ensures mark { IfOk result (λ is_there. IfSome (E.seen file.old).content (λ bytes. 8 ≤ length bytes → is_there ≡ bytes_eq (take 8 bytes) mark)) }
+    ensures reads { Reads (E.seen file.old) (E.seen file.new) result }
 {
     let mut head = [0u8; 8];
     let count = file.read_at(0, &mut head)?;
-    Ok(count == 8 && head == MARK)
+    Ok(count == 8 && head[..] == EMPTY[..8])
 }
 
 // What stands at a place before an end: `None` for a closed gate, and for a record the place behind it.
 pub fn find_next<E: Extent>(file: &mut E, place: u64, end: u64) -> Result<Option<u64>, LogFault>
     requires { place < end }
-    ensures found { IfOk result (λ next. IfSome (E.content file.old) (λ bytes. end ≤ length bytes → FindsAt bytes end place next)) }
-    ensures onward { IfOk result (λ found. IfSome found (λ next. (place + 6 ≤ next) × (next ≤ end) × (next ≤ place + 5 + 4194400))) }
-    ensures broken { (p : ℕ) → result ≡ Err (BadChain p) → (p ≡ place) × IfSome (E.content file.old) (λ bytes. end ≤ length bytes → IsBroken bytes end place) }
-    ensures named { IfErr result IsFaultOrBroken }
-    ensures reads { OnlyReads E.content E.may_leave E.moment E.left_since file.old file.new }
-    ensures room { E.room file.old ≤ E.room file.new }
-    ensures spare { E.spare file.old ≤ E.spare file.new }
-    ensures never_falls { E.file_faults file.old ≤ E.file_faults file.new }
-    ensures fault { IsErrOf result Fault → Rose (E.file_faults file.old) (E.file_faults file.new) }
-    ensures quiet { E.file_is_quiet file.new ≡ E.file_is_quiet file.old }
+    ensures reads { LogReads (E.seen file.old) (E.seen file.new) result }
+    ensures counted { (E.seen file.new).calls ≡ one_more (E.seen file.old).calls }
+    ensures answer { NextAnswers (E.seen file.old).content end place result }
 {
     let gate = read_gate(file, place)?;
     if !gate.is_open {
@@ -109,16 +92,8 @@ pub fn find_next<E: Extent>(file: &mut E, place: u64, end: u64) -> Result<Option
 // Follows the chain of a file of so many bytes to where it ends.
 pub fn find_end<E: Extent>(file: &mut E, len: u64) -> Result<u64, LogFault>
     requires { 8 ≤ len }
-    ensures end { IfOk result (λ end. IfSome (E.content file.old) (λ bytes. len ≡ length bytes → EndsAt bytes end)) }
-    ensures within { IfOk result (λ end. end ≤ len) }
-    ensures broken { (p : ℕ) → result ≡ Err (BadChain p) → IfSome (E.content file.old) (λ bytes. len ≡ length bytes → chain_of bytes ≡ bad_chain p) }
-    ensures named { IfErr result IsFaultOrBroken }
-    ensures reads { OnlyReads E.content E.may_leave E.moment E.left_since file.old file.new }
-    ensures room { E.room file.old ≤ E.room file.new }
-    ensures spare { E.spare file.old ≤ E.spare file.new }
-    ensures never_falls { E.file_faults file.old ≤ E.file_faults file.new }
-    ensures fault { IsErrOf result Fault → Rose (E.file_faults file.old) (E.file_faults file.new) }
-    ensures quiet { E.file_is_quiet file.new ≡ E.file_is_quiet file.old }
+    ensures reads { LogReads (E.seen file.old) (E.seen file.new) result }
+    ensures answer { EndAnswers len (E.seen file.old) (E.seen file.new) result }
 {
     let mut place = FIRST;
     while place < len {
@@ -132,19 +107,11 @@ pub fn find_end<E: Extent>(file: &mut E, len: u64) -> Result<u64, LogFault>
 
 // Writes bytes from a place on and settles them. A crash at any moment of it leaves a file in which any part of the write was done.
 pub fn write_through<E: Extent>(file: &mut E, at: u64, bytes: &[u8]) -> Result<(), Failed>
-    requires place { IfSome (E.content file.old) (λ was. at ≤ length was) }
-    requires room { at + length bytes.now ≤ E.room file.old }
-    requires spare { 2 ≤ E.spare file.old }
-    ensures settled { OnOk result (IfSome (E.content file.old) (λ was.
-        (E.content file.new ≡ Some (overwritten was at bytes.now)) × LeavesExactly (overwritten was at bytes.now) (E.may_leave file.new))) }
-    ensures torn { IfSome (E.content file.old) (λ was. IsSomeAnd (E.content file.new) (IsTorn at (length bytes.now) was)) }
-    ensures moments { IfSome (E.content file.old) (λ was. LeavesExactly was (E.may_leave file.old) →
-        AtEachMoment E.moment E.left_since file.old file.new (IsTorn at (length bytes.now) was)) }
-    ensures tells { is_some (E.content file.new) ≡ is_some (E.content file.old) }
-    ensures room_stays { E.room file.old ≤ E.room file.new }
-    ensures spare_used { E.spare file.old ≤ E.spare file.new + 2 }
-    ensures cause { HasCause (E.file_faults file.old) (E.file_faults file.new) result }
-    ensures quiet { E.file_is_quiet file.new ≡ E.file_is_quiet file.old }
+    requires place { IfSome (E.seen file.old).content (λ was. at ≤ length was) }
+    requires room { at + length bytes.now ≤ (E.seen file.old).room }
+    requires spare { 2 ≤ (E.seen file.old).spare }
+    ensures calls { Calls 2 (E.seen file.old) (E.seen file.new) result }
+    ensures through { WritesThrough at bytes.now (E.seen file.old) (E.seen file.new) result }
 {
     file.write_at(at, bytes)?;
     file.sync()

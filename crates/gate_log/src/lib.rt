@@ -1,8 +1,9 @@
 //! An append-only log of byte strings in one file.
 //!
 //! What a file says is a definition over its bytes alone; a start answers it, an append adds its body to it,
-//! and a read gives the body at a place. A crash at any moment inside an append leaves a file that says the
-//! list without the body or with it at the end, and after Ok with it; inside a start, what it said before.
+//! and a read gives the body at a place. A crash at any moment inside an append leaves the file of a log of
+//! the bodies before, or of those with this one at the end, and after Ok of the latter; inside a start, a file
+//! that says what it said before. `specs/LogLaws` is for those that stand on a log: they need no byte.
 //! Each error has its cause: `Fault` comes only where the file's count of faults rose in that call, and the
 //! others come exactly where the file's bytes, the body's length or the log's end say so.
 //!

@@ -1,10 +1,8 @@
 //! How a record is written behind the chain of a file, and read.
 
-ghost use Rattle.std.specs.Prelude.{◌≡◌, ◌⊎◌, ◌+◌, ◌<◌, ◌≤◌, ◌^◌, [], List, length, slice_range, IfOk, IfErr, IfSome, IsSomeAnd, is_some, IsErrOf};
-ghost use Rattle.disk_base.specs.Faults.{Rose};
-ghost use Rattle.gate_log.specs.declared.fault.LogFault.TheVariants.{Fault, Memory};
-ghost use Rattle.gate_log.specs.LogFile.{bodies_of, record_behind};
-ghost use Rattle.gate_log.specs.GateLog.{IsStarted, OnlyReads, AppendsTo, ReadAnswers, IsFaultOrMemory, IsReadFault};
+ghost use Rattle.std.specs.Prelude.{◌≡◌, ◌+◌, ◌<◌, ◌≤◌, ◌^◌, [], length, Some, IfOk};
+ghost use Rattle.gate_log.specs.LogFile.{longest_body, longest_file, record_behind};
+ghost use Rattle.gate_log.specs.GateLog.{LogCall, LogReads, IsSettled, WriteAnswers, AppendsAt, PieceAnswers, ReadCalls, PlaceAnswers};
 
 use crate::LogFault;
 use crate::device::{find_next, write_through};
@@ -32,16 +30,12 @@ pub fn append_to<E: Extent>(
     body: &[u8],
 ) -> Result<(), LogFault>
     requires some { 1 ≤ length body.now }
-    requires few { length body.now ≤ 4194400 }
-    requires below { place ≤ 2 ^ 40 }
-    requires started { IfSome (E.content file.old) (λ bytes. IsStarted (E.may_leave file.old) place (bodies_of bytes) bytes) }
-    ensures appends { IfSome (E.content file.old) (λ bytes. AppendsTo E.content E.may_leave E.moment E.left_since bytes body.now place file.old file.new result) }
-    ensures named { IfErr result IsFaultOrMemory }
-    ensures memory { IsErrOf result Memory → OnlyReads E.content E.may_leave E.moment E.left_since file.old file.new }
-    ensures tells { is_some (E.content file.new) ≡ is_some (E.content file.old) }
-    ensures never_falls { E.file_faults file.old ≤ E.file_faults file.new }
-    ensures fault { IsErrOf result Fault → Rose (E.file_faults file.old) (E.file_faults file.new) }
-    ensures quiet { E.file_is_quiet file.new ≡ E.file_is_quiet file.old }
+    requires few { length body.now ≤ longest_body }
+    requires below { place ≤ longest_file }
+    requires started { IsSettled (E.seen file.old) (Some place) }
+    ensures call { LogCall (E.seen file.old) (E.seen file.new) result }
+    ensures answer { WriteAnswers 4 (E.seen file.old) (E.seen file.new) result }
+    ensures appends { AppendsAt place body.now (E.seen file.old) (E.seen file.new) result }
 {
     let bytes = record_of(alloc, body)?;
     file.grow(place + 6 + body.len() as u64)?;
@@ -55,21 +49,17 @@ fn read_exactly<E: Extent>(
     alloc: Global,
     at: u64,
     count: u64,
-) -> Result<Option<Vec<u8>>, LogFault>
-    requires { count ≤ 4194400 }
-    ensures bytes { IfOk result (λ found. IfSome (E.content file.old) (λ bytes. at + count ≤ length bytes → IsSomeAnd found (λ body. body.items ≡ slice_range bytes at (at + count)))) }
-    ensures named { IfErr result IsFaultOrMemory }
-    ensures reads { OnlyReads E.content E.may_leave E.moment E.left_since file.old file.new }
-    ensures never_falls { E.file_faults file.old ≤ E.file_faults file.new }
-    ensures fault { IsErrOf result Fault → Rose (E.file_faults file.old) (E.file_faults file.new) }
-    ensures quiet { E.file_is_quiet file.new ≡ E.file_is_quiet file.old }
+) -> Result<Option<Bytes>, LogFault>
+    requires { count ≤ longest_body }
+    ensures reads { LogReads (E.seen file.old) (E.seen file.new) result }
+    ensures answer { PieceAnswers at count (E.seen file.old) (E.seen file.new) result }
 {
     let mut body = vec![in alloc; 0u8; count as usize]?;
     let got = file.read_at(at, &mut body)?;
     if got < body.len() {
         return Ok(None);
     }
-    Ok(Some(body))
+    Ok(Some(Bytes::from_vec(body)))
 }
 
 // The body of the record at a place, and the next place. The record ends before `end`.
@@ -79,12 +69,9 @@ pub fn read_record<E: Extent>(
     place: u64,
     end: u64,
 ) -> Result<(Bytes, u64), LogFault>
-    ensures answer { IfSome (E.content file.old) (λ bytes. end ≤ length bytes → ReadAnswers bytes end place result) }
-    ensures named { IfErr result (IsReadFault place) }
-    ensures reads { OnlyReads E.content E.may_leave E.moment E.left_since file.old file.new }
-    ensures never_falls { E.file_faults file.old ≤ E.file_faults file.new }
-    ensures fault { IsErrOf result Fault → Rose (E.file_faults file.old) (E.file_faults file.new) }
-    ensures quiet { E.file_is_quiet file.new ≡ E.file_is_quiet file.old }
+    ensures reads { LogReads (E.seen file.old) (E.seen file.new) result }
+    ensures calls { ReadCalls (E.seen file.old) (E.seen file.new) result }
+    ensures answer { PlaceAnswers (E.seen file.old).content end place result }
 {
     if place >= end {
         return Err(LogFault::BadChain { place });
@@ -95,5 +82,5 @@ pub fn read_record<E: Extent>(
     let Some(body) = read_exactly(file, alloc, place + 5, next - place - 5)? else {
         return Err(LogFault::BadChain { place });
     };
-    Ok((Bytes::from_vec(body), next))
+    Ok((body, next))
 }

@@ -1,5 +1,7 @@
 //! Worked files, calls that fail, crashes, and files that were cut or changed.
 
+ghost use Rattle.std.specs.Prelude.{◌≤◌, length};
+
 use crate::{GateLog, LogFault, nothing_counts_behind_a_closed_gate, the_gate_alone_adds_a_body};
 use disk_base::{Extent, MemFile};
 use std::alloc::Global;
@@ -30,6 +32,22 @@ fn bytes_of(alloc: Global, file: &mut MemFile) -> Result<Vec<u8>, Fail> {
     Ok(bytes)
 }
 
+/// The last byte of a body, which has as many as a body may have.
+fn last_of(body: &[u8]) -> u8
+    requires some { 1 ≤ length body.now }
+    requires few { length body.now ≤ 4194400 }
+{
+    body[body.len() - 1]
+}
+
+/// The last byte of the first body of a log, over a file that may tell nothing.
+fn last_of_first<E: Extent>(alloc: Global, log: &mut GateLog<E>) -> Result<u8, LogFault> {
+    match log.read(alloc, 8) {
+        Ok((body, _next)) => Ok(last_of(body.as_slice())),
+        Err(fault) => Err(fault),
+    }
+}
+
 /// How many bodies a started log has, read from its first place to its end.
 fn count_bodies(alloc: Global, log: &mut GateLog<MemFile>) -> Result<u64, Fail> {
     let mut place = log.first();
@@ -52,6 +70,17 @@ fn says(alloc: Global, file: MemFile) -> Result<u64, Fail> {
         Err(LogFault::BadChain { place }) => Ok(BAD_CHAIN.saturating_add(place)),
         Err(_) => Ok(u64::MAX),
     }
+}
+
+#[test]
+fn a_body_is_read_over_a_lying_file(rt: HostRuntime) -> Result<(), Fail> {
+    let alloc = rt.alloc();
+    // The bit that is read wrong lies in the first body.
+    let mut log = GateLog::over(MemFile::lying(alloc, vec![in alloc; 14]?));
+    log.start()?;
+    log.append(alloc, b"ab")?;
+    assert_eq!(rt; last_of_first(alloc, &mut log)?, b'c');
+    Ok(())
 }
 
 #[test]

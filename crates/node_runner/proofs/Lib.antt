@@ -1,11 +1,15 @@
 pub mod Gains
+pub mod GivenLines
 pub mod LineCuts
 pub mod LineSteps
 pub mod Lines
 pub mod ModeNames
 pub mod Numerals
 pub mod Objects
+pub mod RanLines
+pub mod RunEnds
 pub mod RunSteps
 pub mod SessionLaws
+pub mod SessionOne
 pub mod StripeLemmas
 pub mod WordCuts

@@ -6,8 +6,8 @@ use Rattle.std.proofs.lemmas.List.{take-append-le, drop-append-le, drop_all, tak
 use Rattle.std.proofs.lemmas.List.Folds.{list_any-append}
 use Rattle.std.proofs.lemmas.Option.{none-some, same_Some}
 use Rattle.std.proofs.lemmas.Bool.{lt-ltb, le-ltb, ltb-true, ltb-false, eqb-true}
-use Rattle.node_runner.specs.Lines.{is_line_feed, HasNoEnd, IsKept, to_come, first_line, content, without_return, is_too_long, longest_line}
-use Rattle.node_runner.specs.Buffered.{IsCut}
+use Rattle.node_runner.specs.Lines.{is_line_feed, HasNoEnd, StillComes, to_come, first_line, content, without_return, is_too_long, longest_line}
+use Rattle.node_runner.specs.Cuts.{IsCut}
 
 -- where the first line feed stands, or the length of bytes with none
 abbrev pub feed_at : List ℕ → ℕ
@@ -107,7 +107,7 @@ cut_last line rest no_end none behind is =
 
 -- What was to come is cut where the line feed was found.
 pub found_cut : (told : Option (List ℕ)) (line rest line' rest' : List ℕ) (over : Bool) (left : Option (List ℕ))
-    → IsKept told (to_come (record { bytes = line ++ rest; is_over = over }) left) → HasNoEnd line → feed_at rest < length rest
+    → StillComes told (to_come (record { bytes = line ++ rest; is_over = over }) left) → HasNoEnd line → feed_at rest < length rest
     → line' ≡ line ++ take (feed_at rest) rest → rest' ≡ drop (feed_at rest + 1) rest
     → IfSome told (λ input. IsCut input true line' (to_come (record { bytes = rest'; is_over = over }) left))
 found_cut None line rest line' rest' over left kept no_end inside new_line new_rest = tt
@@ -123,7 +123,7 @@ found_cut (Some input) line rest line' rest' false (Some more) kept no_end insid
 
 -- What was to come is its last line, which no line feed ends.
 pub over_cut : (told : Option (List ℕ)) (line rest line' rest' : List ℕ) (left : Option (List ℕ))
-    → IsKept told (to_come (record { bytes = line ++ rest; is_over = true }) left) → HasNoEnd line → length rest ≤ feed_at rest
+    → StillComes told (to_come (record { bytes = line ++ rest; is_over = true }) left) → HasNoEnd line → length rest ≤ feed_at rest
     → line' ≡ line ++ take (feed_at rest) rest → rest' ≡ []
     → IfSome told (λ input. IsCut input false line' (Some rest'))
 over_cut None line rest line' rest' left kept no_end none new_line new_rest = tt
@@ -133,7 +133,7 @@ over_cut (Some input) line rest line' rest' left kept no_end none new_line new_r
     subst (λ bytes. IsCut bytes false line' (Some rest')) is (subst (λ bytes. IsCut (line ++ rest) false bytes (Some rest')) (sym new_line) cut)
 
 pub end_cut : (told : Option (List ℕ)) (line rest line' rest' : List ℕ) (left : Option (List ℕ))
-    → IsKept told (to_come (record { bytes = line ++ rest; is_over = false }) left) → HasNoEnd line → length rest ≤ feed_at rest
+    → StillComes told (to_come (record { bytes = line ++ rest; is_over = false }) left) → HasNoEnd line → length rest ≤ feed_at rest
     → line' ≡ line ++ take (feed_at rest) rest → rest' ≡ [] → IfSome left (λ more. more ≡ [])
     → IfSome told (λ input. IsCut input false line' (Some rest'))
 end_cut None line rest line' rest' left kept no_end none new_line new_rest no_more = tt
@@ -171,7 +171,7 @@ long_first (x ∷ input) long =
 
 -- The line that is to come is too long where so many bytes before its line feed are held.
 pub long_told : (told : Option (List ℕ)) (bytes : List ℕ) (over : Bool) (left : Option (List ℕ))
-    → IsKept told (to_come (record { bytes = bytes; is_over = over }) left) → longest_line < feed_at bytes
+    → StillComes told (to_come (record { bytes = bytes; is_over = over }) left) → longest_line < feed_at bytes
     → IfSome told (λ input. IsSomeAnd (first_line input) (λ line. is_too_long line ≡ true))
 long_told None bytes over left kept long = tt
 long_told (Some input) bytes true left kept long =

@@ -7,8 +7,8 @@ use Rattle.std.specs.Map.{lookup}
 use Rattle.std.proofs.lemmas.Option.{same_Some}
 use Rattle.code_mode.specs.declared.mode.Mode.{Mode}
 use Rattle.node_runner.specs.Stripes.{IsStripe}
-use Rattle.node_runner.specs.KeptInside.{AreWhole}
-use Rattle.node_runner.specs.declared.volume.Kept.{Kept}
+use Rattle.node_runner.specs.VolumeInside.{AreWhole}
+use Rattle.node_runner.specs.declared.volume.StoredObject.{StoredObject}
 
 -- a look-up by name over entries that are seen by their names
 pub lookup-seen : {V X : Type 0} (g : V → X) (name : List ℕ) (entries : List (Vec ℕ Global × V))
@@ -57,18 +57,18 @@ last-seen {V} {X} g key name value seen_value entries new seen is_seen key_is va
     mapped ∙ whole ∙ rw (is_seen, key_is, value_is) refl
 
 -- what a look-up finds is whole
-pub found_whole : (mode : Mode) (test : Vec ℕ Global → Bool) (kept : Kept) (entries : List (Vec ℕ Global × Kept)) → AreWhole mode entries → Some kept ≡ lookup test entries → IsStripe mode kept.size kept.shards
+pub found_whole : (mode : Mode) (test : Vec ℕ Global → Bool) (kept : StoredObject) (entries : List (Vec ℕ Global × StoredObject)) → AreWhole mode entries → Some kept ≡ lookup test entries → IsStripe mode kept.size kept.shards
 found_whole mode test kept [] whole h = cc
 found_whole mode test kept (entry ∷ entries) whole h = go (test entry.0) (found_whole mode test kept entries whole.1) h
   where
     go : (passes : Bool) → (Some kept ≡ lookup test entries → IsStripe mode kept.size kept.shards) → Some kept ≡ cond passes (Some entry.1) (lookup test entries) → IsStripe mode kept.size kept.shards
-    go true rest e = subst (λ (k : Kept). IsStripe mode k.size k.shards) (sym (same_Some kept entry.1 e)) whole.0
+    go true rest e = subst (λ (k : StoredObject). IsStripe mode k.size k.shards) (sym (same_Some kept entry.1 e)) whole.0
     go false rest e = rest e
 
-AreWhole-last : (mode : Mode) (entries : List (Vec ℕ Global × Kept)) (entry : Vec ℕ Global × Kept) → AreWhole mode entries → IsStripe mode entry.1.size entry.1.shards → AreWhole mode (entries ++ entry ∷ [])
+AreWhole-last : (mode : Mode) (entries : List (Vec ℕ Global × StoredObject)) (entry : Vec ℕ Global × StoredObject) → AreWhole mode entries → IsStripe mode entry.1.size entry.1.shards → AreWhole mode (entries ++ entry ∷ [])
 AreWhole-last mode [] entry whole new = (new, tt)
 AreWhole-last mode (first ∷ entries) entry whole new = (whole.0, AreWhole-last mode entries entry whole.1 new)
 
 -- a whole object more
-pub last_whole : (mode : Mode) (entries new : List (Vec ℕ Global × Kept)) (entry : Vec ℕ Global × Kept) → AreWhole mode entries → IsStripe mode entry.1.size entry.1.shards → new ≡ entries ++ entry ∷ [] → AreWhole mode new
+pub last_whole : (mode : Mode) (entries new : List (Vec ℕ Global × StoredObject)) (entry : Vec ℕ Global × StoredObject) → AreWhole mode entries → IsStripe mode entry.1.size entry.1.shards → new ≡ entries ++ entry ∷ [] → AreWhole mode new
 last_whole mode entries new entry whole its last = subst (AreWhole mode) (sym last) (AreWhole-last mode entries entry whole its)

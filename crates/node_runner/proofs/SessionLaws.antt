@@ -1,223 +1,177 @@
--- A get prints no other bytes, and a name is entered once.
-use Rattle.std.proofs.Common.{◌≡◌, ℕ, zero, suc, ◌<◌, ◌⊎◌, inl, inr, Bool, true, false, List, [], ◌∷◌, ◌++◌, Option, Some, None, refl, sym, ◌∙◌, ap, arith, cond}
-use Rattle.std.specs.Prelude.{slice_get, is_some, is_none, nat_lt, ◌==◌}
+-- A get prints no other bytes, and a put enters no name that is taken.
+use Rattle.std.proofs.Common.{◌≡◌, ℕ, zero, suc, Bool, true, false, List, [], ◌∷◌, ◌++◌, take, Option, Some, None, refl, sym, ◌∙◌, ap, subst, cond}
+use Rattle.std.specs.Prelude.{slice_get, is_some, is_none, nat_lt, ◌==◌, if◌then◌else◌}
 use Rattle.std.specs.Str.{bytes_eq}
 use Rattle.std.specs.Map.{lookup}
 use Rattle.std.proofs.lemmas.Slice.Eq.{bytes_eq-Decides}
-use Rattle.node_runner.specs.declared.command.Body.{Body}
 use Rattle.node_runner.specs.declared.command.Command.{Command}
 use Rattle.node_runner.specs.declared.command.Command.TheVariants as commands
 use Rattle.node_runner.specs.declared.reply.Refusal.{Refusal}
 use Rattle.node_runner.specs.declared.reply.Refusal.TheVariants as causes
 use Rattle.node_runner.specs.declared.reply.LineReply.{LineReply}
 use Rattle.node_runner.specs.declared.reply.LineReply.TheVariants as replies
-use Rattle.node_runner.specs.Session.{Object, State, fresh, bytes_of, size_of, named, next_bid, first_volume, first_cause, largest_object, disks_refusal, volume_refusal, put_refusal, answer_unless, change_unless, object_of, got, reply_of, state_after, replies_from, Enters, ShowsWhatWasPut, EntersOnce}
+use Rattle.node_runner.specs.Session.{Object, State, Step, Loss, Turn, fresh, size_of, named, next_bid, first_volume, first_that_holds, largest_object, disks_refusal, volume_refusal, put_refusal, get_refusal, bytes_in, object_of, with_object, Unless, Answers, Does, AreTurns, entered_by, entered_from, ShowsWhatWasPut, EntersNewNames}
 
--- the bytes of an object
-abbrev bytes_in : Option Object → Option (List ℕ)
-bytes_in (Some object) = Some object.bytes
-bytes_in None = None
+-- the bytes of an object, where there is one
+abbrev carried_by : Option Object → Option (List ℕ)
+carried_by (Some object) = Some object.bytes
+carried_by None = None
 
--- the bytes of the object of this name
+-- what the state has under a name
 abbrev shown : State → List ℕ → Option (List ℕ)
-shown state name = bytes_in (named state name)
+shown state name = carried_by (named state name)
 
--- this command is a put of this name that is done, with these bytes
-pub record EntersNow (state : State) (command : Command) (name bytes : List ℕ) : Type 0 where
-  pub body : Body
-  pub is_put : command ≡ commands.Put name body
-  pub is_done : reply_of state command ≡ replies.Put name first_volume (next_bid state) (size_of body)
-  pub carried : bytes ≡ bytes_of body
+-- behind an object that came last under a new name
+lookup-snoc : (name : List ℕ) (objects : List (List ℕ × Object)) (key : List ℕ) (object : Object) → lookup (bytes_eq key) objects ≡ None
+    → carried_by (lookup (bytes_eq name) (objects ++ (key, object) ∷ [])) ≡ (if bytes_eq name key then Some object.bytes else carried_by (lookup (bytes_eq name) objects))
+lookup-snoc name objects key object free = go (bytes_eq name key) refl where
+  other : (objects : List (List ℕ × Object)) → bytes_eq name key ≡ false
+      → lookup (bytes_eq name) (objects ++ (key, object) ∷ []) ≡ lookup (bytes_eq name) objects
+  other [] e = ap (λ test. cond test (Some object) None) e
+  other (first ∷ objects) e = ap (λ found. cond (bytes_eq name first.0) (Some first.1) found) (other objects e)
 
-own_reply : (refusal : Option Refusal) (command : Command) (reply : LineReply) (name bytes : List ℕ) → answer_unless refusal command reply ≡ replies.Got name bytes → reply ≡ replies.Got name bytes
-own_reply (Some cause) command reply name bytes h = cc
-own_reply None command reply name bytes h = h
+  here : (objects : List (List ℕ × Object)) → lookup (bytes_eq name) objects ≡ None → bytes_eq name key ≡ true
+      → lookup (bytes_eq name) (objects ++ (key, object) ∷ []) ≡ Some object
+  here [] none e = ap (λ test. cond test (Some object) None) e
+  here (first ∷ objects) none e = step (bytes_eq name first.0) (here objects) none where
+    step : (test : Bool) → (lookup (bytes_eq name) objects ≡ None → bytes_eq name key ≡ true → lookup (bytes_eq name) (objects ++ (key, object) ∷ []) ≡ Some object)
+        → cond test (Some first.1) (lookup (bytes_eq name) objects) ≡ None
+        → cond test (Some first.1) (lookup (bytes_eq name) (objects ++ (key, object) ∷ [])) ≡ Some object
+    step true rest h = cc
+    step false rest h = rest h e
 
-got_found : (asked : List ℕ) (object : Option Object) (name bytes : List ℕ) → got asked object ≡ replies.Got name bytes → (asked ≡ name) × (bytes_in object ≡ Some bytes)
-got_found asked (Some object) name bytes h = (cc, cc)
-got_found asked None name bytes h = cc
+  go : (test : Bool) → bytes_eq name key ≡ test
+      → carried_by (lookup (bytes_eq name) (objects ++ (key, object) ∷ [])) ≡ (if test then Some object.bytes else carried_by (lookup (bytes_eq name) objects))
+  go true e = ap carried_by (here objects (ap (λ n. lookup (bytes_eq n) objects) ((bytes_eq-Decides name key).0 e) ∙ free) e)
+  go false e = ap carried_by (other objects e)
 
--- a got line shows what the state has under that name
-shows_now : (state : State) (command : Command) (name bytes : List ℕ) → reply_of state command ≡ replies.Got name bytes → shown state name ≡ Some bytes
-shows_now state (commands.Disks count) name bytes h =
-    let own = own_reply (disks_refusal state count) (commands.Disks count) (replies.Disks count) name bytes h in cc
-shows_now state (commands.Volume mode) name bytes h =
-    let own = own_reply (volume_refusal state mode) (commands.Volume mode) (replies.Volume first_volume mode) name bytes h in cc
-shows_now state (commands.Put asked body) name bytes h =
-    let own = own_reply (put_refusal state asked (size_of body)) (commands.Put asked body) (replies.Put asked first_volume (next_bid state) (size_of body)) name bytes h in cc
-shows_now state (commands.Get asked) name bytes h =
-    let found = got_found asked (named state asked) name bytes h in
-    ap (shown state) (sym found.0) ∙ found.1
+-- a put that isn't refused has a new name
+new_name : (empty large taken none : Bool)
+    → first_that_holds ((empty, causes.Empty) ∷ (large, causes.TooLarge) ∷ (taken, causes.NameTaken) ∷ (none, causes.NoVolume) ∷ []) ≡ None → taken ≡ false
+new_name true large taken none h = cc
+new_name false true taken none h = cc
+new_name false false true none h = cc
+new_name false false false none h = refl
 
--- what is found behind an object that came last
-lookup-snoc : (name : List ℕ) (objects : List (List ℕ × Object)) (key : List ℕ) (object : Object) (bytes : List ℕ)
-    → bytes_in (lookup (bytes_eq name) (objects ++ (key, object) ∷ [])) ≡ Some bytes
-    → (bytes_in (lookup (bytes_eq name) objects) ≡ Some bytes) ⊎ ((key ≡ name) × (bytes ≡ object.bytes))
-lookup-snoc name [] key object bytes h = go (bytes_eq name key) refl h where
-  go : (test : Bool) → bytes_eq name key ≡ test → bytes_in (cond test (Some object) None) ≡ Some bytes
-      → (bytes_in None ≡ Some bytes) ⊎ ((key ≡ name) × (bytes ≡ object.bytes))
-  go true e h = inr (sym ((bytes_eq-Decides name key).0 e), cc)
-  go false e h = inl h
-lookup-snoc name (first ∷ objects) key object bytes h = go (bytes_eq name first.0) (lookup-snoc name objects key object bytes) h where
-  go : (test : Bool)
-      → (bytes_in (lookup (bytes_eq name) (objects ++ (key, object) ∷ [])) ≡ Some bytes
-      → (bytes_in (lookup (bytes_eq name) objects) ≡ Some bytes) ⊎ ((key ≡ name) × (bytes ≡ object.bytes)))
-      → bytes_in (cond test (Some first.1) (lookup (bytes_eq name) (objects ++ (key, object) ∷ []))) ≡ Some bytes
-      → (bytes_in (cond test (Some first.1) (lookup (bytes_eq name) objects)) ≡ Some bytes) ⊎ ((key ≡ name) × (bytes ≡ object.bytes))
-  go true rest h = inl h
-  go false rest h = rest h
+none_there : (found : Option Object) → is_some found ≡ false → found ≡ None
+none_there (Some object) h = cc
+none_there None h = refl
 
--- what the state has after a command it had before, or the command entered it
-shown_after : (state : State) (command : Command) (name bytes : List ℕ) → shown (state_after state command) name ≡ Some bytes
-    → (shown state name ≡ Some bytes) ⊎ EntersNow state command name bytes
-shown_after state (commands.Disks count) name bytes h = go (disks_refusal state count) h where
-  go : (refusal : Option Refusal) → shown (change_unless refusal state (record state { disks = Some count })) name ≡ Some bytes → (shown state name ≡ Some bytes) ⊎ EntersNow state (commands.Disks count) name bytes
-  go (Some cause) h = inl h
-  go None h = inl h
-shown_after state (commands.Volume mode) name bytes h = go (volume_refusal state mode) h where
-  go : (refusal : Option Refusal) → shown (change_unless refusal state (record state { volume = Some mode })) name ≡ Some bytes → (shown state name ≡ Some bytes) ⊎ EntersNow state (commands.Volume mode) name bytes
-  go (Some cause) h = inl h
-  go None h = inl h
-shown_after state (commands.Put key body) name bytes h = go (put_refusal state key (size_of body)) refl h where
-  go : (refusal : Option Refusal) → put_refusal state key (size_of body) ≡ refusal
-      → shown (change_unless refusal state (record state { objects = state.objects ++ (key, object_of state body) ∷ [] })) name ≡ Some bytes
-      → (shown state name ≡ Some bytes) ⊎ EntersNow state (commands.Put key body) name bytes
-  go (Some cause) e h = inl h
-  go None e h = elim (lookup-snoc name state.objects key (object_of state body) bytes h) [
-    | inl before ↦ inl before
-    | inr new ↦ inr (record {
-      body = body;
-      is_put = ap (λ n. commands.Put n body) new.0;
-      is_done = ap (λ r. answer_unless r (commands.Put key body) (replies.Put key first_volume (next_bid state) (size_of body))) e ∙ ap (λ n. replies.Put n first_volume (next_bid state) (size_of body)) new.0;
-      carried = new.1;
-    })
-  ]
-shown_after state (commands.Get asked) name bytes h = inl h
+free_name : (state : State) (name : List ℕ) (size : ℕ) → put_refusal state name size ≡ None → named state name ≡ None
+free_name state name size h =
+    none_there (named state name) (new_name (size == 0) (nat_lt largest_object size) (is_some (named state name)) (is_none state.volume) h)
 
--- the next turn of a session that goes on
-enters_later : (state : State) (command : Command) (session : List Command) (place : ℕ) (name bytes : List ℕ)
-    → Enters (state_after state command) session place name bytes → Enters state (command ∷ session) (suc place) name bytes
-enters_later state command session place name bytes h =
-    record { body = h.body; bid = h.bid; command = h.command; reply = h.reply; carried = h.carried }
+-- what the state behind a command has under a name
+shown_after : (old : State) (command : Command) (reply : LineReply) (new : State) (name : List ℕ) → Answers old command reply new
+    → shown new name ≡ entered_by name command reply (shown old name)
+shown_after old (commands.Disks count) reply new name h = go (disks_refusal old count) h where
+  go : (refusal : Option Refusal) → Unless refusal (commands.Disks count) old reply new ((reply ≡ replies.Disks count) × (new ≡ record old { disks = Some count }))
+      → shown new name ≡ shown old name
+  go (Some cause) h = ap (λ s. shown s name) h.1
+  go None h = ap (λ s. shown s name) h.1
+shown_after old (commands.Volume mode) reply new name h = go (volume_refusal old mode) h where
+  go : (refusal : Option Refusal) → Unless refusal (commands.Volume mode) old reply new ((reply ≡ replies.Volume first_volume mode) × (new ≡ record old { volume = Some mode }))
+      → shown new name ≡ shown old name
+  go (Some cause) h = ap (λ s. shown s name) h.1
+  go None h = ap (λ s. shown s name) h.1
+shown_after old (commands.Put put body) reply new name h = go (put_refusal old put (size_of body)) refl h where
+  go : (refusal : Option Refusal) → put_refusal old put (size_of body) ≡ refusal
+      → Unless refusal (commands.Put put body) old reply new ((reply ≡ replies.Put put first_volume (next_bid old) (size_of body)) × (new ≡ with_object old put (object_of old body)))
+      → shown new name ≡ entered_by name (commands.Put put body) reply (shown old name)
+  go (Some cause) e h = ap (λ s. shown s name) h.1 ∙ sym (ap (λ r. entered_by name (commands.Put put body) r (shown old name)) h.0)
+  go None e h =
+      ap (λ s. shown s name) h.1 ∙ lookup-snoc name old.objects put (object_of old body) (free_name old put (size_of body) e)
+      ∙ sym (ap (λ r. entered_by name (commands.Put put body) r (shown old name)) h.0)
+shown_after old (commands.Get get) reply new name h = go (get_refusal (named old get)) h where
+  go : (refusal : Option Refusal) → Unless refusal (commands.Get get) old reply new ((reply ≡ replies.Got get (bytes_in (named old get))) × (new ≡ old))
+      → shown new name ≡ shown old name
+  go (Some cause) h = ap (λ s. shown s name) h.1
+  go None h = ap (λ s. shown s name) h.1
 
-enters_first : (state : State) (command : Command) (session : List Command) (name bytes : List ℕ)
-    → EntersNow state command name bytes → Enters state (command ∷ session) zero name bytes
-enters_first state command session name bytes h =
-    record { body = h.body; bid = next_bid state; command = ap Some h.is_put; reply = ap Some h.is_done; carried = h.carried }
+-- a turn is the answer to its command
+answers_of : (old : State) (command : Command) (own : List Step) (lost : Option Loss) (reply : LineReply) (new : State) → Does old command own lost reply new → Answers old command reply new
+answers_of old command [] None reply new h = h
+answers_of old command [] (Some loss) reply new h = absurd h
+answers_of old command (step ∷ own) lost reply new h = absurd h
 
-shows : (state : State) (session : List Command) (place : ℕ) (name bytes : List ℕ)
-    → slice_get (replies_from state session) place ≡ Some (replies.Got name bytes)
-    → (shown state name ≡ Some bytes) ⊎ ((earlier : ℕ) × (earlier < place) × Enters state session earlier name bytes)
-shows state [] place name bytes h = cc
-shows state (command ∷ session) zero name bytes h = inl (shows_now state command name bytes cc)
-shows state (command ∷ session) (suc place) name bytes h = elim (shows (state_after state command) session place name bytes h) [
-  | inl there ↦ elim (shown_after state command name bytes there) [
-    | inl before ↦ inl before
-    | inr now ↦ inr (zero, omega arith, enters_first state command session name bytes now)
-  ]
-  | inr later ↦ inr (suc later.0, omega (arith, later.1), enters_later state command session later.0 name bytes later.2)
-]
+-- A turn at a place, and what a name stands for in the state before it.
+record Stands (session : List Turn) (place : ℕ) (turn : Turn) (name : List ℕ) (before : Option (List ℕ)) : Type 0 where
+  state : State
+  behind : State
+  answers : Answers state turn.command turn.reply behind
+  shows : shown state name ≡ entered_from name before (take place session)
+
+stands : (old : State) (session : List Turn) (new : State) (place : ℕ) (turn : Turn) (name : List ℕ) → AreTurns old session new → slice_get session place ≡ Some turn
+    → Stands session place turn name (shown old name)
+stands old [] new place turn name h at = cc
+stands old (first ∷ session) new zero turn name h at =
+    let same : first ≡ turn = cc in
+    record { state = old; behind = h.0; answers = rw (sym same) (answers_of old first.command first.own first.lost first.reply h.0 h.1); shows = refl }
+stands old (first ∷ session) new (suc place) turn name h at =
+    let there = stands h.0 session new place turn name h.2 at in
+    let after = shown_after old first.command first.reply h.0 name (answers_of old first.command first.own first.lost first.reply h.0 h.1) in
+    record { state = there.state; behind = there.behind; answers = there.answers; shows = there.shows ∙ ap (λ before. entered_from name before (take place session)) after }
+
+got_is : (old : State) (command : Command) (new : State) (name bytes : List ℕ) → Answers old command (replies.Got name bytes) new → shown old name ≡ Some bytes
+got_is old (commands.Disks count) new name bytes h = go (disks_refusal old count) h where
+  go : (refusal : Option Refusal) → Unless refusal (commands.Disks count) old (replies.Got name bytes) new ((replies.Got name bytes ≡ replies.Disks count) × (new ≡ record old { disks = Some count }))
+      → shown old name ≡ Some bytes
+  go (Some cause) h = let e = h.0 in cc
+  go None h = let e = h.0 in cc
+got_is old (commands.Volume mode) new name bytes h = go (volume_refusal old mode) h where
+  go : (refusal : Option Refusal) → Unless refusal (commands.Volume mode) old (replies.Got name bytes) new ((replies.Got name bytes ≡ replies.Volume first_volume mode) × (new ≡ record old { volume = Some mode }))
+      → shown old name ≡ Some bytes
+  go (Some cause) h = let e = h.0 in cc
+  go None h = let e = h.0 in cc
+got_is old (commands.Put put body) new name bytes h = go (put_refusal old put (size_of body)) h where
+  go : (refusal : Option Refusal)
+      → Unless refusal (commands.Put put body) old (replies.Got name bytes) new ((replies.Got name bytes ≡ replies.Put put first_volume (next_bid old) (size_of body)) × (new ≡ with_object old put (object_of old body)))
+      → shown old name ≡ Some bytes
+  go (Some cause) h = let e = h.0 in cc
+  go None h = let e = h.0 in cc
+got_is old (commands.Get get) new name bytes h = go (named old get) refl h where
+  go : (found : Option Object) → named old get ≡ found
+      → Unless (get_refusal found) (commands.Get get) old (replies.Got name bytes) new ((replies.Got name bytes ≡ replies.Got get (bytes_in found)) × (new ≡ old))
+      → shown old name ≡ Some bytes
+  go (Some object) e h =
+      let asked : name ≡ get = let r = h.0 in cc in
+      let carried : bytes ≡ object.bytes = let r = h.0 in cc in
+      ap (shown old) asked ∙ ap carried_by e ∙ ap Some (sym carried)
+  go None e h = let r = h.0 in cc
 
 pub shows_what_was_put : ShowsWhatWasPut
-shows_what_was_put session place name bytes h = elim (shows fresh session place name bytes h) [ inl nothing ↦ cc | inr found ↦ found ]
+shows_what_was_put session state place turn name bytes h at got =
+    let s = stands fresh session state place turn name h at in
+    let found = got_is s.state turn.command s.behind name bytes (subst (λ (r : LineReply). Answers s.state turn.command r s.behind) got s.answers) in
+    sym s.shows ∙ found
 
--- there is an object of this name
-abbrev is_there : State → List ℕ → Bool
-is_there state name = is_some (named state name)
+put_is_new : (old : State) (command : Command) (new : State) (name : List ℕ) (vid bid size : ℕ) → Answers old command (replies.Put name vid bid size) new → shown old name ≡ None
+put_is_new old (commands.Disks count) new name vid bid size h = go (disks_refusal old count) h where
+  go : (refusal : Option Refusal) → Unless refusal (commands.Disks count) old (replies.Put name vid bid size) new ((replies.Put name vid bid size ≡ replies.Disks count) × (new ≡ record old { disks = Some count }))
+      → shown old name ≡ None
+  go (Some cause) h = let e = h.0 in cc
+  go None h = let e = h.0 in cc
+put_is_new old (commands.Volume mode) new name vid bid size h = go (volume_refusal old mode) h where
+  go : (refusal : Option Refusal) → Unless refusal (commands.Volume mode) old (replies.Put name vid bid size) new ((replies.Put name vid bid size ≡ replies.Volume first_volume mode) × (new ≡ record old { volume = Some mode }))
+      → shown old name ≡ None
+  go (Some cause) h = let e = h.0 in cc
+  go None h = let e = h.0 in cc
+put_is_new old (commands.Put put body) new name vid bid size h = go (put_refusal old put (size_of body)) refl h where
+  go : (refusal : Option Refusal) → put_refusal old put (size_of body) ≡ refusal
+      → Unless refusal (commands.Put put body) old (replies.Put name vid bid size) new ((replies.Put name vid bid size ≡ replies.Put put first_volume (next_bid old) (size_of body)) × (new ≡ with_object old put (object_of old body)))
+      → shown old name ≡ None
+  go (Some cause) e h = let r = h.0 in cc
+  go None e h =
+      let same : name ≡ put = let r = h.0 in cc in
+      ap (shown old) same ∙ ap carried_by (free_name old put (size_of body) e)
+put_is_new old (commands.Get get) new name vid bid size h = go (get_refusal (named old get)) h where
+  go : (refusal : Option Refusal) → Unless refusal (commands.Get get) old (replies.Put name vid bid size) new ((replies.Put name vid bid size ≡ replies.Got get (bytes_in (named old get))) × (new ≡ old))
+      → shown old name ≡ None
+  go (Some cause) h = let e = h.0 in cc
+  go None h = let e = h.0 in cc
 
--- an object stays when another comes last
-there-snoc : (name : List ℕ) (objects : List (List ℕ × Object)) (key : List ℕ) (object : Object)
-    → is_some (lookup (bytes_eq name) objects) ≡ true → is_some (lookup (bytes_eq name) (objects ++ (key, object) ∷ [])) ≡ true
-there-snoc name [] key object h = cc
-there-snoc name (first ∷ objects) key object h = go (bytes_eq name first.0) (there-snoc name objects key object) h where
-  go : (test : Bool)
-      → (is_some (lookup (bytes_eq name) objects) ≡ true → is_some (lookup (bytes_eq name) (objects ++ (key, object) ∷ [])) ≡ true)
-      → is_some (cond test (Some first.1) (lookup (bytes_eq name) objects)) ≡ true
-      → is_some (cond test (Some first.1) (lookup (bytes_eq name) (objects ++ (key, object) ∷ []))) ≡ true
-  go true rest h = refl
-  go false rest h = rest h
-
--- the object that came last is there
-snoc_there : (name : List ℕ) (objects : List (List ℕ × Object)) (object : Object) → is_some (lookup (bytes_eq name) (objects ++ (name, object) ∷ [])) ≡ true
-snoc_there name [] object = ap (λ test. is_some (cond test (Some object) None)) ((bytes_eq-Decides name name).1 refl)
-snoc_there name (first ∷ objects) object = go (bytes_eq name first.0) (snoc_there name objects object) where
-  go : (test : Bool) → is_some (lookup (bytes_eq name) (objects ++ (name, object) ∷ [])) ≡ true
-      → is_some (cond test (Some first.1) (lookup (bytes_eq name) (objects ++ (name, object) ∷ []))) ≡ true
-  go true rest = refl
-  go false rest = rest
-
--- an object stays over every command
-stays : (state : State) (command : Command) (name : List ℕ) → is_there state name ≡ true → is_there (state_after state command) name ≡ true
-stays state (commands.Disks count) name h = go (disks_refusal state count) where
-  go : (refusal : Option Refusal) → is_there (change_unless refusal state (record state { disks = Some count })) name ≡ true
-  go (Some cause) = h
-  go None = h
-stays state (commands.Volume mode) name h = go (volume_refusal state mode) where
-  go : (refusal : Option Refusal) → is_there (change_unless refusal state (record state { volume = Some mode })) name ≡ true
-  go (Some cause) = h
-  go None = h
-stays state (commands.Put key body) name h = go (put_refusal state key (size_of body)) where
-  go : (refusal : Option Refusal) → is_there (change_unless refusal state (record state { objects = state.objects ++ (key, object_of state body) ∷ [] })) name ≡ true
-  go (Some cause) = h
-  go None = there-snoc name state.objects key (object_of state body) h
-stays state (commands.Get asked) name h = h
-
--- where a name is taken no put of it is done
-refused_there : (state : State) (body : Body) (name : List ℕ) (bid size : ℕ) → is_there state name ≡ true
-    → reply_of state (commands.Put name body) ≡ replies.Put name first_volume bid size → ⊥
-refused_there state body name bid size h done =
-    go (size_of body == 0) (nat_lt largest_object (size_of body)) (is_there state name) (is_none state.volume) h done where
-      go : (empty large taken none : Bool) → taken ≡ true
-          → answer_unless (first_cause ((empty, causes.Empty) ∷ (large, causes.TooLarge) ∷ (taken, causes.NameTaken) ∷ (none, causes.NoVolume) ∷ [])) (commands.Put name body)
-          (replies.Put name first_volume (next_bid state) (size_of body)) ≡ replies.Put name first_volume bid size
-          → ⊥
-      go true large taken none h done = cc
-      go false true taken none h done = cc
-      go false false true none h done = cc
-      go false false false none h done = cc
-
--- the name is there after the put that entered it
-there_after : (state : State) (body : Body) (name : List ℕ) (bid size : ℕ)
-    → reply_of state (commands.Put name body) ≡ replies.Put name first_volume bid size → is_there (state_after state (commands.Put name body)) name ≡ true
-there_after state body name bid size done = go (put_refusal state name (size_of body)) done where
-  go : (refusal : Option Refusal)
-      → answer_unless refusal (commands.Put name body) (replies.Put name first_volume (next_bid state) (size_of body)) ≡ replies.Put name first_volume bid size
-      → is_there (change_unless refusal state (record state { objects = state.objects ++ (name, object_of state body) ∷ [] })) name ≡ true
-  go (Some cause) done = cc
-  go None done = snoc_there name state.objects (object_of state body)
-
--- the turns behind the first
-enters_behind : (state : State) (command : Command) (session : List Command) (place : ℕ) (name bytes : List ℕ)
-    → Enters state (command ∷ session) (suc place) name bytes → Enters (state_after state command) session place name bytes
-enters_behind state command session place name bytes h =
-    record { body = h.body; bid = h.bid; command = h.command; reply = h.reply; carried = h.carried }
-
-enters_no_more : (state : State) (session : List Command) (place : ℕ) (name bytes : List ℕ) → is_there state name ≡ true → Enters state session place name bytes → ⊥
-enters_no_more state [] place name bytes h enters = let e = enters.command in cc
-enters_no_more state (command ∷ session) zero name bytes h enters =
-    let is_put : command ≡ commands.Put name enters.body = let e = enters.command in cc in
-    let reply : reply_of state command ≡ replies.Put name first_volume enters.bid (size_of enters.body) = let e = enters.reply in cc in
-    refused_there state enters.body name enters.bid (size_of enters.body) h (ap (reply_of state) (sym is_put) ∙ reply)
-enters_no_more state (command ∷ session) (suc place) name bytes h enters =
-    enters_no_more (state_after state command) session place name bytes (stays state command name h) (enters_behind state command session place name bytes enters)
-
-there_behind : (state : State) (command : Command) (session : List Command) (name bytes : List ℕ) → Enters state (command ∷ session) zero name bytes
-    → is_there (state_after state command) name ≡ true
-there_behind state command session name bytes enters =
-    let is_put : command ≡ commands.Put name enters.body = let e = enters.command in cc in
-    let reply : reply_of state command ≡ replies.Put name first_volume enters.bid (size_of enters.body) = let e = enters.reply in cc in
-    ap (λ c. is_there (state_after state c) name) is_put ∙ there_after state enters.body name enters.bid (size_of enters.body) (ap (reply_of state) (sym is_put) ∙ reply)
-
-once : (state : State) (session : List Command) (first second : ℕ) (name bytes others : List ℕ) → Enters state session first name bytes
-    → Enters state session second name others → first ≡ second
-once state [] first second name bytes others h k = let e = h.command in cc
-once state (command ∷ session) zero zero name bytes others h k = refl
-once state (command ∷ session) zero (suc second) name bytes others h k =
-    absurd (enters_no_more (state_after state command) session second name others (there_behind state command session name bytes h) (enters_behind state command session second name others k))
-once state (command ∷ session) (suc first) zero name bytes others h k =
-    absurd (enters_no_more (state_after state command) session first name bytes (there_behind state command session name others k) (enters_behind state command session first name bytes h))
-once state (command ∷ session) (suc first) (suc second) name bytes others h k =
-    ap suc (once (state_after state command) session first second name bytes others (enters_behind state command session first name bytes h) (enters_behind state command session second name others k))
-
-pub enters_once : EntersOnce
-enters_once = once fresh
+pub enters_new_names : EntersNewNames
+enters_new_names session state place turn name vid bid size h at put =
+    let s = stands fresh session state place turn name h at in
+    let found = put_is_new s.state turn.command s.behind name vid bid size (subst (λ (r : LineReply). Answers s.state turn.command r s.behind) put s.answers) in
+    sym s.shows ∙ found

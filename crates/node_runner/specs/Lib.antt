@@ -1,13 +1,13 @@
-pub mod Buffered
-pub mod Kept
-pub mod KeptInside
+pub mod Cuts
+pub mod Feeding
 pub mod Lines
 pub mod Progress
 pub mod Reading
 pub mod Run
 pub mod Script
 pub mod Session
-pub mod Stops
 pub mod StoreInside
 pub mod Stripes
 pub mod Text
+pub mod VolumeInside
+pub mod Volumes

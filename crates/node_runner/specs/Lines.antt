@@ -65,19 +65,19 @@ abbrev pub after_line : List ℕ → List ℕ
 after_line input = after_first is_line_feed input
 
 -- What a feed holds: the bytes that it pulled and hasn't given yet, and whether its source said that the input ends there.
-pub record Held : Type 0 where
+pub record Buffered : Type 0 where
   pub bytes : List ℕ
   pub is_over : Bool
 
 -- a feed that has pulled nothing
-abbrev pub nothing_held : Held
-nothing_held = record { bytes = []; is_over = false }
+abbrev pub nothing_buffered : Buffered
+nothing_buffered = record { bytes = []; is_over = false }
 
 -- the input that is to come by way of a feed, over a source that has these bytes left and tells them
-abbrev pub to_come : Held → Option (List ℕ) → Option (List ℕ)
+abbrev pub to_come : Buffered → Option (List ℕ) → Option (List ℕ)
 to_come held left = if held.is_over then Some held.bytes else option_map (λ more. held.bytes ++ more) left
 
 -- where it was known what was to come, it still is, and it is the same
-abbrev pub IsKept : Option (List ℕ) → Option (List ℕ) → Type 0
-IsKept None now = Unit {0}
-IsKept (Some input) now = now ≡ Some input
+abbrev pub StillComes : Option (List ℕ) → Option (List ℕ) → Type 0
+StillComes None now = Unit {0}
+StillComes (Some input) now = now ≡ Some input

@@ -1,12 +1,31 @@
--- How far a run has come.
-use Rattle.std.specs.Prelude.{ℕ, ◌≡◌, ◌<◌, ◌⊎◌, Bool, true, false, if◌then◌else◌, List, [], ◌∷◌, ◌++◌, length, Option, Some, None, IfSome, IsSome, IsSomeAnd, Result, Ok, Err}
-use Rattle.std.specs.List.{list_all}
-use Rattle.node_runner.specs.Lines.{Line, content, cut_lines, whole_lines, first_line, after_line, HasNoEnd, IsKept, is_too_long}
-use Rattle.node_runner.specs.Session.{State, fresh, state_after}
-use Rattle.node_runner.specs.Run.{Gains, GainsFront, WritesPart, RunsWhole, StopsAtBadLine, StopsBehindWholeLines, pulled, good_lines, commands_of, spelled, is_in_language, text_of_lines, text_after, state_behind}
+-- How far a run has come between two lines, and what one line more does.
+use Rattle.std.specs.Prelude.{ℕ, ◌≡◌, ◌<◌, ◌≤◌, ◌⊎◌, true, false, if◌then◌else◌, List, [], ◌∷◌, ◌++◌, length, map, Some, IfSome, IsSome, IsSomeAnd, Result, Ok, Err, OnOk, OnErr}
+use Rattle.std.specs.List.{list_all, filter_map}
+use Rattle.disk_base.specs.Faults.{Rose, HasCause}
+use Rattle.disk_base.specs.Streams.{SourceView, SinkView}
+use Rattle.node_runner.specs.Lines.{Line, content, cut_lines, first_line, HasNoEnd, StillComes}
+use Rattle.node_runner.specs.Feeding.{FeedView, comes, Gives}
+use Rattle.node_runner.specs.Session.{State, Turn, Answers, AreTurns, commands_of}
+use Rattle.node_runner.specs.Text.{text_of_reply, text_of}
+use Rattle.node_runner.specs.Run.{most_lines, is_in_language, is_said, spelled, Gains, GainsPart, Ran, EndsLines, is_closed}
 use Rattle.node_runner.specs.declared.command.Command.{Command}
-use Rattle.node_runner.specs.declared.line_run.Stop.{Stop}
-use Rattle.node_runner.specs.declared.line_run.Stop.TheVariants as stops
+use Rattle.node_runner.specs.declared.reply.LineReply.{LineReply}
+use Rattle.node_runner.specs.declared.feed.LineFault.{LineFault}
+use Rattle.node_runner.specs.declared.feed.LineFault.TheVariants as faults
+use Rattle.node_runner.specs.declared.read.CommandFault.{CommandFault}
+use Rattle.node_runner.specs.declared.read.CommandFault.TheVariants as refusals
+use Rattle.node_runner.specs.declared.ending.Ending.{Ending}
+use Rattle.node_runner.specs.declared.ending.Ending.TheVariants as endings
+
+-- how a feed's fault and a line without a command end a run
+abbrev pub ending_of_line : LineFault → Ending
+ending_of_line faults.Read = endings.ReadFault
+ending_of_line faults.TooLong = endings.BadLine
+ending_of_line faults.Memory = endings.OutOfMemory
+
+abbrev pub ending_of_command : CommandFault → Ending
+ending_of_command refusals.Bad = endings.BadLine
+ending_of_command refusals.Memory = endings.OutOfMemory
 
 -- the bytes of a line, with the line feed that ends it
 abbrev pub line_bytes : Line → List ℕ
@@ -16,116 +35,133 @@ abbrev pub bytes_of_lines : List Line → List ℕ
 bytes_of_lines [] = []
 bytes_of_lines (line ∷ lines) = line_bytes line ++ bytes_of_lines lines
 
--- the state after commands
-abbrev pub state_from : State → List Command → State
-state_from state [] = state
-state_from state (command ∷ commands) = state_from (state_after state command) commands
-
 -- no line feed stands inside a line
 abbrev pub AreCut : List Line → Type 0
 AreCut [] = Unit {0}
 AreCut (line ∷ lines) = HasNoEnd line.bytes × AreCut lines
 
--- What is known between two lines: what is to come, whether the source said that the input ends, the state, and what the sink holds.
-pub record Moment : Type 0 where
-  pub comes : Option (List ℕ)
-  pub is_over : Bool
+-- what a run has in hand between two lines
+pub record RunView : Type 0 where
+  pub feed : FeedView
   pub state : State
-  pub holds : Option (List ℕ)
+  pub sink : SinkView
 
--- Of the input so many lines ran, all in the language. The state is the one behind their commands, and the sink gained their text.
-pub record Progress (input : List ℕ) (held : Option (List ℕ)) (lines : ℕ) (now : Moment) : Type 0 where
+abbrev pub run_of : FeedView → State → SinkView → RunView
+run_of feed state sink = record { feed = feed; state = state; sink = sink }
+
+-- where the source said that the input ends, it has nothing left
+abbrev pub IsAtEnd : FeedView → Type 0
+IsAtEnd feed = feed.buffer.is_over ≡ true → IfSome feed.source.left (λ bytes. bytes ≡ [])
+
+-- The lines that ran are the first of the input, and the rest is to come.
+pub record IsBehind (input : List ℕ) (said : List (List ℕ)) (feed : FeedView) : Type 0 where
   pub ran : List Line
   pub rest : List ℕ
-  pub to_come : now.comes ≡ Some rest
-  pub count : length ran ≡ lines
+  pub says : said ≡ map content ran
+  pub to_come : comes feed ≡ Some rest
   pub cut : cut_lines input ≡ ran ++ cut_lines rest
   pub front : input ≡ bytes_of_lines ran ++ rest
   pub are_cut : AreCut ran
   pub good : list_all is_in_language ran ≡ true
-  pub ended : now.is_over ≡ false → list_all (λ line. line.is_ended) ran ≡ true
-  pub state_is : now.state ≡ state_from fresh (commands_of ran)
-  pub gained : Gains held (text_of_lines ran) now.holds
+  pub ended : feed.buffer.is_over ≡ false → list_all (λ line. line.is_ended) ran ≡ true
+  pub told : IsSome feed.source.left
+  pub at_end : IsAtEnd feed
 
--- The next line of what is to come ran: its text was gained, and what stands behind it is to come.
-pub record RunsLine (before after : Moment) (rest : List ℕ) : Type 0 where
-  pub line : Line
-  pub next : first_line rest ≡ Some line
-  pub good : is_in_language line ≡ true
-  pub to_come : after.comes ≡ Some (after_line rest)
-  pub not_over : after.is_over ≡ false → (before.is_over ≡ false) × (line.is_ended ≡ true)
-  pub state_is : after.state ≡ state_behind before.state (spelled (content line))
-  pub gained : Gains before.holds (text_after before.state (spelled (content line))) after.holds
+-- no count falls, and a source goes on telling
+pub record KeepsCounts (source source' : SourceView) (sink sink' : SinkView) : Type 0 where
+  pub source_faults : source.faults ≤ source'.faults
+  pub sink_faults : sink.faults ≤ sink'.faults
+  pub told : IsSome source.left → IsSome source'.left
 
--- The next line was answered, and a front of its text was written.
-pub record WritesFront (before after : Moment) (rest : List ℕ) : Type 0 where
-  pub line : Line
-  pub next : first_line rest ≡ Some line
-  pub good : is_in_language line ≡ true
-  pub part : GainsFront before.holds (text_after before.state (spelled (content line))) after.holds
+-- So many lines ran since this source and this sink were taken.
+pub record Progress (source : SourceView) (sink : SinkView) (lines : ℕ) (now : RunView) : Type 0 where
+  pub said : List (List ℕ)
+  pub session : List Turn
+  pub count : length said ≡ lines
+  pub ran : Ran said session now.state
+  pub gained : Gains sink (text_of session) now.sink
+  pub lines_are : IfSome source.left (λ input. IsBehind input said now.feed)
+  pub counts : KeepsCounts source now.feed.source sink now.sink
+
+-- the turns of a line that says this: one of its command, or none
+pub record AnswersLine (said : List ℕ) (turns : List Turn) (old new : State) : Type 0 where
+  pub in_language : is_said said ≡ true
+  pub commands : commands_of turns ≡ filter_map spelled (said ∷ [])
+  pub turns_are : AreTurns old turns new
+
+-- the text of the reply to a command
+pub record HasAnswered (command : Command) (text : List ℕ) (old new : State) : Type 0 where
+  pub reply : LineReply
+  pub answers : Answers old command reply new
+  pub text_is : text ≡ text_of_reply reply
+
+-- the text of the turns of a line that says this
+pub record HasAnsweredLine (said text : List ℕ) (old new : State) : Type 0 where
+  pub turns : List Turn
+  pub answered : AnswersLine said turns old new
+  pub text_is : text ≡ text_of turns
+
+-- The next line was answered, and its text was written.
+pub record RunsLine (old new : RunView) : Type 0 where
+  pub said : List ℕ
+  pub turns : List Turn
+  pub answered : AnswersLine said turns old.state new.state
+  pub gained : Gains old.sink (text_of turns) new.sink
+  pub given : IfSome (comes old.feed) (Gives said old.feed new.feed)
+
+-- The next line was answered, and a part of its text was written.
+pub record BreaksLine (old new : RunView) : Type 0 where
+  pub said : List ℕ
+  pub turns : List Turn
+  pub answered : AnswersLine said turns old.state new.state
+  pub part : GainsPart old.sink (text_of turns) new.sink
+  pub given : IfSome (comes old.feed) (Gives said old.feed new.feed)
+  pub cause : Rose old.sink.faults new.sink.faults
 
 -- a line is next, and isn't in the language
 abbrev pub NextIsBad : List ℕ → Type 0
 NextIsBad rest = IsSomeAnd (first_line rest) (λ line. is_in_language line ≡ false)
 
--- where the source said that the input ends, it has nothing left
-abbrev pub IsAtEnd : Bool → Option (List ℕ) → Type 0
-IsAtEnd is_over left = is_over ≡ true → IfSome left (λ bytes. bytes ≡ [])
+-- there is more
+abbrev pub HasMore : List ℕ → Type 0
+HasMore rest = 0 < length rest
 
--- these bytes are what the next line says, and what stands behind it is to come
-pub record TakesLine (bytes : List ℕ) (comes : Option (List ℕ)) (was_over is_over : Bool) (rest : List ℕ) : Type 0 where
-  pub line : Line
-  pub next : first_line rest ≡ Some line
-  pub says : content line ≡ bytes
-  pub short : is_too_long line ≡ false
-  pub to_come : comes ≡ Some (after_line rest)
-  pub not_over : is_over ≡ false → (was_over ≡ false) × (line.is_ended ≡ true)
-
--- What a call that is to read the next line did, by its answer.
-abbrev pub ReadsLine : Result (Option (List ℕ)) Stop → Option (List ℕ) → Option (List ℕ) → Bool → Bool → Type 0
-ReadsLine (Ok (Some bytes)) comes now was_over is_over = IfSome comes (TakesLine bytes now was_over is_over)
-ReadsLine (Ok None) comes now was_over is_over = IfSome comes (λ rest. rest ≡ []) × (is_over ≡ true)
-ReadsLine (Err stops.Bad) comes now was_over is_over = IfSome comes NextIsBad
-ReadsLine (Err stops.Read) comes now was_over is_over = IsKept comes now × (was_over ≡ false) × (is_over ≡ false)
-ReadsLine (Err stops.Write) comes now was_over is_over = ⊥
-ReadsLine (Err stops.Memory) comes now was_over is_over = Unit {0}
+-- Why there is no line more: what was to come, where that is known.
+abbrev pub Stops : Ending → FeedView → FeedView → (List ℕ → Type 0) → Type 0
+Stops endings.Whole old new bad = IfSome (comes old) (λ rest. rest ≡ []) × (new.buffer.is_over ≡ true)
+Stops endings.BadLine old new bad = IfSome (comes old) bad
+Stops endings.ReadFault old new bad =
+    StillComes (comes old) (comes new) × Rose old.source.faults new.source.faults
+    × (old.buffer.is_over ≡ false) × (new.buffer.is_over ≡ false) × HasNoEnd new.buffer.bytes
+Stops endings.OutOfMemory old new bad = Unit {0}
+Stops ending old new bad = ⊥
 
 -- What a call that is to run the next line did, by its answer.
-abbrev pub EndsLine : Result Bool Stop → Moment → Moment → Type 0
-EndsLine (Ok true) before after = IfSome before.comes (RunsLine before after)
-EndsLine (Ok false) before after = IfSome before.comes (λ rest. rest ≡ []) × (after.is_over ≡ true) × (after.holds ≡ before.holds)
-EndsLine (Err stops.Bad) before after = IfSome before.comes NextIsBad × (after.holds ≡ before.holds)
-EndsLine (Err stops.Read) before after = IsKept before.comes after.comes × (before.is_over ≡ false) × (after.is_over ≡ false) × (after.holds ≡ before.holds)
-EndsLine (Err stops.Write) before after = IfSome before.comes (WritesFront before after)
-EndsLine (Err stops.Memory) before after = after.holds ≡ before.holds
+abbrev pub EndsLine : {T : Type 0} → Result T Ending → RunView → RunView → Type 0
+EndsLine (Ok done) old new = RunsLine old new
+EndsLine (Err endings.WriteFault) old new = BreaksLine old new
+EndsLine (Err ending) old new = Stops ending old.feed new.feed NextIsBad × (new.sink ≡ old.sink)
 
--- Between two lines, over a source that tells what it has left.
-pub record Runs (input : List ℕ) (held : Option (List ℕ)) (lines : ℕ) (now : Moment) (left : Option (List ℕ)) : Type 0 where
-  pub progress : Progress input held lines now
-  pub told : IsSome left
-  pub at_end : IsAtEnd now.is_over left
+-- What pushing all bytes did, by its answer.
+pub record PushesAll {T E : Type 0} (bytes : List ℕ) (old new : SinkView) (result : Result T E) : Type 0 where
+  pub pushed : OnOk result (Gains old bytes new)
+  pub part : OnErr result (GainsPart old bytes new)
+  pub cause : HasCause old.faults new.faults result
 
--- How a run that was stopped ended, and how one that wasn't.
-abbrev pub EndsRun : Option Stop → List ℕ → Option (List ℕ) → ℕ → Option (List ℕ) → Option (List ℕ) → Type 0
-EndsRun None input left lines held holds = RunsWhole input left lines × Gains held (text_of_lines (good_lines (cut_lines input))) holds
-EndsRun (Some stops.Bad) input left lines held holds = StopsAtBadLine input lines × Gains held (text_of_lines (good_lines (cut_lines input))) holds
-EndsRun (Some stops.Read) input left lines held holds =
-    IfSome left (λ rest. StopsBehindWholeLines input rest lines × Gains held (text_of_lines (whole_lines (pulled input rest))) holds)
-EndsRun (Some stops.Write) input left lines held holds = WritesPart input lines held holds
-EndsRun (Some stops.Memory) input left lines held holds = WritesPart input lines held holds
+-- how a run ends where its lines ended so and the sink was asked to hand on
+abbrev pub Closes : Ending → Ending → SinkView → SinkView → Type 0
+Closes before endings.WriteFault old new =
+    ((before ≡ endings.WriteFault) × (new ≡ old)) ⊎ ((is_closed before ≡ true) × (new.held ≡ old.held) × Rose old.faults new.faults)
+Closes before endings.OutOfMemory old new = (before ≡ endings.OutOfMemory) × (new ≡ old)
+Closes before after old new = (before ≡ after) × (is_closed before ≡ true) × (new.held ≡ old.held) × (new.is_handed_on ≡ true)
 
--- What reading once more, behind the last line that may be, tells of how the run ends.
-abbrev pub ReadsLast : Option Stop → Option (List ℕ) → Option (List ℕ) → Bool → Bool → Type 0
-ReadsLast None comes now was_over is_over = IfSome comes (λ rest. rest ≡ []) × (is_over ≡ true)
-ReadsLast (Some stops.Bad) comes now was_over is_over = IfSome comes (λ rest. 0 < length rest)
-ReadsLast (Some stops.Read) comes now was_over is_over = IsKept comes now × (was_over ≡ false) × (is_over ≡ false)
-ReadsLast (Some stops.Write) comes now was_over is_over = ⊥
-ReadsLast (Some stops.Memory) comes now was_over is_over = Unit {0}
-
--- the status of a run that ended so; where the sink fails at the close it is 4
-abbrev pub CloseStatus : Option Stop → ℕ → Type 0
-CloseStatus None status = (status ≡ 0) ⊎ (status ≡ 4)
-CloseStatus (Some stops.Bad) status = (status ≡ 1) ⊎ (status ≡ 4)
-CloseStatus (Some stops.Read) status = (status ≡ 3) ⊎ (status ≡ 4)
-CloseStatus (Some stops.Write) status = status ≡ 4
-CloseStatus (Some stops.Memory) status = status ≡ 5
+-- What running all lines did: so many ran and ended so, with the turns of a session.
+pub record RunsLines (source source' : SourceView) (sink sink' : SinkView) (ending : Ending) (lines : ℕ) : Type 0 where
+  pub said : List (List ℕ)
+  pub session : List Turn
+  pub state : State
+  pub count : length said ≡ lines
+  pub few : lines ≤ most_lines
+  pub ran : Ran said session state
+  pub ends : EndsLines ending source source' sink sink' said session
+  pub counts : KeepsCounts source source' sink sink'

@@ -1,8 +1,9 @@
--- What a script's commands are answered, told by the disks, the volume's mode and the objects that puts entered.
-use Rattle.std.specs.Prelude.{◌≡◌, ℕ, ◌+◌, ◌<◌, if◌then◌else◌, Bool, ◌||◌, ◌==◌, nat_lt, List, [], ◌∷◌, ◌++◌, length, slice_get, Option, Some, None, is_some, is_none}
+-- A session: for each command a turn, from the state that the turns before it left.
+use Rattle.std.specs.Prelude.{◌≡◌, ℕ, ◌+◌, if◌then◌else◌, Bool, ◌||◌, ◌==◌, nat_lt, List, [], ◌∷◌, ◌++◌, length, take, slice_get, Option, Some, None, is_some, is_none}
 use Rattle.std.specs.Str.{bytes_eq}
 use Rattle.std.specs.Map.{lookup}
 use Rattle.code_mode.specs.declared.mode.Mode.{Mode}
+use Rattle.code_mode.specs.declared.stripe.TheConstants.{BLOB_LIMIT}
 use Rattle.code_mode.specs.declared.payload.Payload.TheVariants as payloads
 use Rattle.code_mode.specs.Mode.{total_count}
 use Rattle.code_mode.specs.Payload.{payload_bytes}
@@ -19,9 +20,9 @@ use Rattle.node_runner.specs.declared.reply.LineReply.TheVariants as replies
 abbrev pub most_disks : ℕ
 most_disks = 64
 
--- the most bytes of an object
+-- the most bytes of an object, which is one blob
 abbrev pub largest_object : ℕ
-largest_object = 4194304
+largest_object = BLOB_LIMIT
 
 -- the number of the one volume
 abbrev pub first_volume : ℕ
@@ -32,15 +33,17 @@ pub record Object : Type 0 where
   pub bid : ℕ
   pub bytes : List ℕ
 
--- what is known between two commands: how many disks were given, the mode of the volume, and the objects by name, in order of put
+-- What is known between two commands: how many disks there are, the mode of the volume, how many blob numbers were given in it, and the
+-- objects by name, in order of put.
 pub record State : Type 0 where
   pub disks : Option ℕ
   pub volume : Option Mode
+  pub bids : ℕ
   pub objects : List (List ℕ × Object)
 
 -- before the first command
 abbrev pub fresh : State
-fresh = record { disks = None; volume = None; objects = [] }
+fresh = record { disks = None; volume = None; bids = 0; objects = [] }
 
 -- the bytes that a put carries
 abbrev pub bytes_of : Body → List ℕ
@@ -58,94 +61,131 @@ named state name = lookup (bytes_eq name) state.objects
 
 -- the number of the next blob
 abbrev pub next_bid : State → ℕ
-next_bid state = length state.objects + 1
+next_bid state = state.bids + 1
 
 -- how many disks there are
 abbrev pub disk_count : Option ℕ → ℕ
 disk_count (Some count) = count
 disk_count None = 0
 
--- the cause of the first test that holds
-abbrev pub first_cause : List (Bool × Refusal) → Option Refusal
-first_cause [] = None
-first_cause (test ∷ tests) = if test.0 then Some test.1 else first_cause tests
+-- what stands beside the first test that holds
+abbrev pub first_that_holds : List (Bool × Refusal) → Option Refusal
+first_that_holds [] = None
+first_that_holds (test ∷ tests) = if test.0 then Some test.1 else first_that_holds tests
 
 -- why the disks aren't taken
 abbrev pub disks_refusal : State → ℕ → Option Refusal
 disks_refusal state count =
-    first_cause ((is_some state.disks, causes.Given (disk_count state.disks)) ∷ ((count == 0) || nat_lt most_disks count, causes.Limit) ∷ [])
+    first_that_holds ((is_some state.disks, causes.Given (disk_count state.disks)) ∷ ((count == 0) || nat_lt most_disks count, causes.Limit) ∷ [])
 
 -- why the volume isn't made
 abbrev pub volume_refusal : State → Mode → Option Refusal
 volume_refusal state mode =
     let have = disk_count state.disks in
-    first_cause ((is_some state.volume, causes.Limit) ∷ (nat_lt have (total_count mode), causes.FewDisks have (total_count mode)) ∷ [])
+    first_that_holds ((is_some state.volume, causes.Limit) ∷ (nat_lt have (total_count mode), causes.FewDisks have (total_count mode)) ∷ [])
 
 -- why an object isn't put
 abbrev pub put_refusal : State → List ℕ → ℕ → Option Refusal
 put_refusal state name size =
-    first_cause ((size == 0, causes.Empty) ∷ (nat_lt largest_object size, causes.TooLarge) ∷ (is_some (named state name), causes.NameTaken) ∷ (is_none state.volume, causes.NoVolume) ∷ [])
+    first_that_holds ((size == 0, causes.Empty) ∷ (nat_lt largest_object size, causes.TooLarge) ∷ (is_some (named state name), causes.NameTaken) ∷ (is_none state.volume, causes.NoVolume) ∷ [])
 
--- a refusal of the command, or else its own reply
-abbrev pub answer_unless : Option Refusal → Command → LineReply → LineReply
-answer_unless (Some cause) command reply = replies.Refused command cause
-answer_unless None command reply = reply
+-- why there is no object to get
+abbrev pub get_refusal : Option Object → Option Refusal
+get_refusal found = first_that_holds ((is_none found, causes.NoName) ∷ [])
 
--- the reply to a get, by the object of that name
-abbrev pub got : List ℕ → Option Object → LineReply
-got name (Some object) = replies.Got name object.bytes
-got name None = replies.Refused (commands.Get name) causes.NoName
+-- the bytes of an object
+abbrev pub bytes_in : Option Object → List ℕ
+bytes_in (Some object) = object.bytes
+bytes_in None = []
 
--- the reply to a command
-abbrev pub reply_of : State → Command → LineReply
-reply_of state (commands.Disks count) = answer_unless (disks_refusal state count) (commands.Disks count) (replies.Disks count)
-reply_of state (commands.Volume mode) = answer_unless (volume_refusal state mode) (commands.Volume mode) (replies.Volume first_volume mode)
-reply_of state (commands.Put name body) =
-    answer_unless (put_refusal state name (size_of body)) (commands.Put name body) (replies.Put name first_volume (next_bid state) (size_of body))
-reply_of state (commands.Get name) = got name (named state name)
-
--- a refusal changes nothing
-abbrev pub change_unless : Option Refusal → State → State → State
-change_unless (Some cause) old new = old
-change_unless None old new = new
-
--- the object that a put enters
+-- the object that a put enters: what the put carried, under the next number
 abbrev pub object_of : State → Body → Object
 object_of state body = record { bid = next_bid state; bytes = bytes_of body }
 
--- the state after a command
-abbrev pub state_after : State → Command → State
-state_after state (commands.Disks count) = change_unless (disks_refusal state count) state (record state { disks = Some count })
-state_after state (commands.Volume mode) = change_unless (volume_refusal state mode) state (record state { volume = Some mode })
-state_after state (commands.Put name body) =
-    change_unless (put_refusal state name (size_of body)) state (record state { objects = state.objects ++ (name, object_of state body) ∷ [] })
-state_after state (commands.Get name) = state
+-- the state with an object more, whose number is given
+abbrev pub with_object : State → List ℕ → Object → State
+with_object state name object = record state { bids = next_bid state; objects = state.objects ++ (name, object) ∷ [] }
 
--- the replies to commands, in order
-abbrev pub replies_from : State → List Command → List LineReply
-replies_from state [] = []
-replies_from state (command ∷ commands) = reply_of state command ∷ replies_from (state_after state command) commands
+-- a command that is refused changes nothing
+abbrev pub Unless : Option Refusal → Command → State → LineReply → State → Type 0 → Type 0
+Unless (Some cause) command old reply new done = (reply ≡ replies.Refused command cause) × (new ≡ old)
+Unless None command old reply new done = done
 
--- the replies of a session
-abbrev pub replies_of : List Command → List LineReply
-replies_of commands = replies_from fresh commands
+-- A command, its reply, and the states before and behind it.
+abbrev pub Answers : State → Command → LineReply → State → Type 0
+Answers old (commands.Disks count) reply new =
+    Unless (disks_refusal old count) (commands.Disks count) old reply new ((reply ≡ replies.Disks count) × (new ≡ record old { disks = Some count }))
+Answers old (commands.Volume mode) reply new =
+    Unless (volume_refusal old mode) (commands.Volume mode) old reply new ((reply ≡ replies.Volume first_volume mode) × (new ≡ record old { volume = Some mode }))
+Answers old (commands.Put name body) reply new =
+    Unless (put_refusal old name (size_of body)) (commands.Put name body) old reply new
+    ((reply ≡ replies.Put name first_volume (next_bid old) (size_of body)) × (new ≡ with_object old name (object_of old body)))
+Answers old (commands.Get name) reply new =
+    Unless (get_refusal (named old name)) (commands.Get name) old reply new ((reply ≡ replies.Got name (bytes_in (named old name))) × (new ≡ old))
 
--- The turn at this place is a put of this name that was done: it entered the name, with these bytes.
-pub record Enters (state : State) (session : List Command) (place : ℕ) (name bytes : List ℕ) : Type 0 where
-  pub body : Body
-  pub bid : ℕ
-  pub command : slice_get session place ≡ Some (commands.Put name body)
-  pub reply : slice_get (replies_from state session) place ≡ Some (replies.Put name first_volume bid (size_of body))
-  pub carried : bytes ≡ bytes_of body
+-- an entry of a volume's history, and what may be lost while a volume is made: there is neither yet
+abbrev pub Entry : Type 0
+Entry = ⊥
 
--- no other bytes: each `got` line shows the bytes of the put that entered its name before it
+abbrev pub Loss : Type 0
+Loss = ⊥
+
+-- an entry that a command adds to a volume
+pub record Step : Type 0 where
+  pub vid : ℕ
+  pub entry : Entry
+
+-- a command, the entries that it added itself, what was lost, and its reply
+pub record Turn : Type 0 where
+  pub command : Command
+  pub own : List Step
+  pub lost : Option Loss
+  pub reply : LineReply
+
+-- no command adds an entry or loses anything yet
+abbrev pub Does : State → Command → List Step → Option Loss → LineReply → State → Type 0
+Does old command [] None reply new = Answers old command reply new
+Does old command own lost reply new = ⊥
+
+-- a turn, and the states before and behind it
+abbrev pub IsTurn : State → Turn → State → Type 0
+IsTurn old turn new = Does old turn.command turn.own turn.lost turn.reply new
+
+-- turns, one behind the other
+abbrev pub AreTurns : State → List Turn → State → Type 0
+AreTurns old [] new = new ≡ old
+AreTurns old (turn ∷ turns) new = (next : State) × IsTurn old turn next × AreTurns next turns new
+
+abbrev pub commands_of : List Turn → List Command
+commands_of [] = []
+commands_of (turn ∷ turns) = turn.command ∷ commands_of turns
+
+-- what a name stands for behind a turn: a put of it that was done enters the bytes that the put carried
+abbrev pub entered_by : List ℕ → Command → LineReply → Option (List ℕ) → Option (List ℕ)
+entered_by name (commands.Put put body) (replies.Put done vid bid size) before = if bytes_eq name put then Some (bytes_of body) else before
+entered_by name command reply before = before
+
+abbrev pub entered_from : List ℕ → Option (List ℕ) → List Turn → Option (List ℕ)
+entered_from name before [] = before
+entered_from name before (turn ∷ turns) = entered_from name (entered_by name turn.command turn.reply before) turns
+
+-- the bytes that the last put of this name carried that was done in these turns, with no deletion since
+abbrev pub last_put : List Turn → List ℕ → Option (List ℕ)
+last_put turns name = entered_from name None turns
+
+-- No other bytes: each `got` line of a session shows the bytes that the last put of its name carried.
 abbrev pub ShowsWhatWasPut : Type 0
 ShowsWhatWasPut =
-    (session : List Command) (place : ℕ) (name bytes : List ℕ) → slice_get (replies_of session) place ≡ Some (replies.Got name bytes)
-    → (earlier : ℕ) × (earlier < place) × Enters fresh session earlier name bytes
+    (session : List Turn) (state : State) (place : ℕ) (turn : Turn) (name bytes : List ℕ) → AreTurns fresh session state
+    → slice_get session place ≡ Some turn → turn.reply ≡ replies.Got name bytes → last_put (take place session) name ≡ Some bytes
 
--- one put at most enters a name
-abbrev pub EntersOnce : Type 0
-EntersOnce =
-    (session : List Command) (first second : ℕ) (name bytes others : List ℕ) → Enters fresh session first name bytes
-    → Enters fresh session second name others → first ≡ second
+-- a put enters no name that stands for bytes already
+abbrev pub EntersNewNames : Type 0
+EntersNewNames =
+    (session : List Turn) (state : State) (place : ℕ) (turn : Turn) (name : List ℕ) (vid bid size : ℕ) → AreTurns fresh session state
+    → slice_get session place ≡ Some turn → turn.reply ≡ replies.Put name vid bid size → last_put (take place session) name ≡ None
+
+-- The commands of a session decide its turns, and so its text.
+abbrev pub CommandsDecide : Type 0
+CommandsDecide =
+    (first second : List Turn) (state end : State) → AreTurns fresh first state → AreTurns fresh second end → commands_of first ≡ commands_of second → first ≡ second

@@ -1,7 +1,8 @@
--- How the fields of a store stand for the state of a session.
+-- How the fields of a store stand for the state of a session. Each number that was given is an object's.
+use Rattle.std.specs.Prelude.{length}
 use Rattle.node_runner.specs.Session.{State}
-use Rattle.node_runner.specs.Kept.{objects_in, mode_in}
+use Rattle.node_runner.specs.Volumes.{objects_in, mode_in}
 use Rattle.node_runner.specs.declared.store.Store.TheInside.{Inside}
 
 abbrev pub state_of : Inside → State
-state_of inside = record { disks = inside.disks; volume = mode_in inside.volume; objects = objects_in inside.volume }
+state_of inside = record { disks = inside.disks; volume = mode_in inside.volume; bids = length (objects_in inside.volume); objects = objects_in inside.volume }

@@ -2,9 +2,10 @@
 
 ghost use Rattle.std.specs.Prelude.{List, ℕ, option_to_list, ◌≡◌, ◌+◌, ◌-◌, ◌<◌, ◌≤◌, ◌==◌, slice_index, ◌++◌, [], nat_lt, true, false, length, take, drop, vec_len, if◌then◌else◌, Some, None, Ok, IfOk, OnOk, OnErr, IfSome, IsSome, IsSomeAnd, IsErrOf, option_map};
 ghost use Rattle.std.specs.List.{position_or_len};
-ghost use Rattle.disk_base.specs.Faults.{Rose};
-ghost use Rattle.node_runner.specs.Buffered.{held_in, rest_in, IsCut};
-ghost use Rattle.node_runner.specs.Lines.{cut_lines, is_line_feed, longest_line, piece_size, is_too_long, content, first_line, after_line, nothing_held, without_return, HasNoEnd, IsKept, Held, to_come};
+ghost use Rattle.disk_base.specs.Streams.{SourceView};
+ghost use Rattle.node_runner.specs.Cuts.{buffered_in, rest_in, IsCut};
+ghost use Rattle.node_runner.specs.Feeding.{FeedView, feed_of, comes, KeepsFeed, GivesLine, IsBounded, Gathers, Refills, FindsNone};
+ghost use Rattle.node_runner.specs.Lines.{cut_lines, longest_line, piece_size, is_line_feed, first_line, after_line, nothing_buffered, without_return, HasNoEnd, to_come};
 
 use disk_base::Source;
 use std::alloc::{AllocError, Global};
@@ -84,20 +85,15 @@ struct Buffer {
     is_over: bool,
     ghost within: { at ≤ vec_len piece },
     ghost no_end: { HasNoEnd line.items },
-    ghost line_fits: { vec_len line ≤ 1048576 },
-    ghost piece_fits: { vec_len piece ≤ 4096 },
+    ghost line_fits: { vec_len line ≤ longest_line },
+    ghost piece_fits: { vec_len piece ≤ piece_size },
 }
 
 impl Buffer {
     /// Moves what the piece has of the next line to the line, and passes over its line feed. Answers
     /// whether the line feed was there.
     fn gather(&mut self) -> Result<bool, LineFault>
-        ensures ended { IfOk result (λ ended. ended ≡ nat_lt (position_or_len is_line_feed (drop self.old.at self.old.piece.items)) (length (drop self.old.at self.old.piece.items))) }
-        ensures line { OnOk result (self.new.line.items ≡ self.old.line.items ++ take (position_or_len is_line_feed (drop self.old.at self.old.piece.items)) (drop self.old.at self.old.piece.items)) }
-        ensures rest { OnOk result (drop self.new.at self.new.piece.items ≡ drop (position_or_len is_line_feed (drop self.old.at self.old.piece.items) + 1) (drop self.old.at self.old.piece.items)) }
-        ensures too_long { IsErrOf result LineFault.TooLong → longest_line < position_or_len is_line_feed (self.new.line.items ++ drop self.new.at self.new.piece.items) }
-        ensures no_read { IsErrOf result LineFault.Read → ⊥ }
-        ensures err { OnErr result ((self.new.line.items ≡ self.old.line.items) × (self.new.piece.items ≡ self.old.piece.items) × (self.new.at ≡ self.old.at)) }
+        ensures gathers { Gathers self.old.line.items (drop self.old.at self.old.piece.items) self.new.line.items (drop self.new.at self.new.piece.items) result }
         ensures over { self.new.is_over ≡ self.old.is_over }
     {
         let rest = behind(&self.piece, self.at);
@@ -115,18 +111,11 @@ impl Buffer {
     /// input.
     fn refill<S: Source>(&mut self, source: &mut S) -> Result<bool, LineFault>
         requires { drop self.old.at self.old.piece.items ≡ [] }
-        ensures line { self.new.line.items ≡ self.old.line.items }
-        ensures over { self.new.is_over ≡ self.old.is_over }
-        ensures pulled { OnOk result (IsKept (S.left source.old) (option_map (λ more. drop self.new.at self.new.piece.items ++ more) (S.left source.new))) }
-        ensures some { IfOk result (λ some. some ≡ nat_lt 0 (length (drop self.new.at self.new.piece.items))) }
-        ensures end { IfOk result (λ some. IfSome (S.left source.old) (λ left. some ≡ false → left ≡ [])) }
-        ensures drained { IfOk result (λ some. some ≡ false → IsSome (S.left source.old) → S.left source.new ≡ Some []) }
-        ensures told { IsSome (S.left source.old) → IsSome (S.left source.new) }
-        ensures empty { OnErr result ((drop self.new.at self.new.piece.items ≡ []) × (S.left source.new ≡ S.left source.old)) }
-        ensures read { IsErrOf result LineFault.Read → Rose (S.source_faults source.old) (S.source_faults source.new) }
-        ensures no_too_long { IsErrOf result LineFault.TooLong → ⊥ }
-        ensures never_falls { S.source_faults source.old ≤ S.source_faults source.new }
-        ensures quiet { S.source_is_quiet source.new ≡ S.source_is_quiet source.old }
+        ensures line { (self.new.line.items ≡ self.old.line.items) × (self.new.is_over ≡ self.old.is_over) }
+        ensures refills { Refills (drop self.new.at self.new.piece.items) (S.seen source.old) (S.seen source.new) result }
+        ensures told { IsSome (S.seen source.old).left → IsSome (S.seen source.new).left }
+        ensures never_falls { (S.seen source.old).faults ≤ (S.seen source.new).faults }
+        ensures quiet { (S.seen source.new).is_quiet ≡ (S.seen source.old).is_quiet }
     {
         self.at = 0;
         self.piece.clear();
@@ -144,19 +133,13 @@ impl Buffer {
     /// Pulls until the next line is gathered whole. Answers whether a line feed ended it; else the input
     /// is over.
     fn find_end<S: Source>(&mut self, source: &mut S) -> Result<bool, LineFault>
-        ensures cut { IfOk result (λ ended. IfSome (to_come (held_in self.old.line.items self.old.piece.items self.old.at self.old.is_over) (S.left source.old)) (λ input.
-            IsCut input ended self.new.line.items (to_come (rest_in self.new.piece.items self.new.at self.new.is_over) (S.left source.new)))) }
-        ensures over_stays { self.old.is_over ≡ true → (self.new.is_over ≡ true) × (S.left source.new ≡ S.left source.old) }
-        ensures drained { self.old.is_over ≡ false → self.new.is_over ≡ true → IsSome (S.left source.old) → S.left source.new ≡ Some [] }
-        ensures told { IsSome (S.left source.old) → IsSome (S.left source.new) }
+        ensures cut { IfOk result (λ ended. IfSome (comes (feed_of (buffered_in self.old.line.items self.old.piece.items self.old.at self.old.is_over) (S.seen source.old))) (λ input.
+            IsCut input ended self.new.line.items (to_come (rest_in self.new.piece.items self.new.at self.new.is_over) (S.seen source.new).left))) }
         ensures over { (result ≡ Ok false) → (drop self.new.at self.new.piece.items ≡ []) × (self.new.is_over ≡ true) }
-        ensures kept { OnErr result (IsKept (to_come (held_in self.old.line.items self.old.piece.items self.old.at self.old.is_over) (S.left source.old))
-            (to_come (held_in self.new.line.items self.new.piece.items self.new.at self.new.is_over) (S.left source.new))) }
-        ensures too_long { IsErrOf result LineFault.TooLong → longest_line < position_or_len is_line_feed (self.new.line.items ++ drop self.new.at self.new.piece.items) }
-        ensures read { IsErrOf result LineFault.Read → Rose (S.source_faults source.old) (S.source_faults source.new) }
-        ensures between { IsErrOf result LineFault.Read → (self.new.is_over ≡ false) × HasNoEnd (self.new.line.items ++ drop self.new.at self.new.piece.items) }
-        ensures never_falls { S.source_faults source.old ≤ S.source_faults source.new }
-        ensures quiet { S.source_is_quiet source.new ≡ S.source_is_quiet source.old }
+        ensures none { FindsNone (feed_of (buffered_in self.old.line.items self.old.piece.items self.old.at self.old.is_over) (S.seen source.old))
+            (feed_of (buffered_in self.new.line.items self.new.piece.items self.new.at self.new.is_over) (S.seen source.new)) result }
+        ensures keeps { KeepsFeed (feed_of (buffered_in self.old.line.items self.old.piece.items self.old.at self.old.is_over) (S.seen source.old))
+            (feed_of (buffered_in self.new.line.items self.new.piece.items self.new.at self.new.is_over) (S.seen source.new)) }
     {
         'pieces: while !self.gather()? {
             if self.is_over {
@@ -195,18 +178,18 @@ pub struct LineBuffer {
 }
 
 impl Model for LineBuffer {
-    ghost use Rattle.node_runner.specs.Lines.{Held};
-    ghost use Rattle.node_runner.specs.Buffered.{held_in};
+    ghost use Rattle.node_runner.specs.Lines.{Buffered};
+    ghost use Rattle.node_runner.specs.Cuts.{buffered_in};
 
-    ghost Value = { Held };
+    ghost Value = { Buffered };
 
-    ghost view = { λ held. held_in held.buffer.line.items held.buffer.piece.items held.buffer.at held.buffer.is_over };
+    ghost view = { λ held. buffered_in held.buffer.line.items held.buffer.piece.items held.buffer.at held.buffer.is_over };
 }
 
 impl LineBuffer {
     /// Nothing was pulled. Takes no memory.
-    pub fn make(alloc: Global) -> LineBuffer
-        ensures { result ≡ nothing_held }
+    fn make(alloc: Global) -> LineBuffer
+        ensures { result ≡ nothing_buffered }
     {
         LineBuffer {
             buffer: Buffer {
@@ -219,29 +202,11 @@ impl LineBuffer {
         }
     }
 
-    /// The next line of a source, as `Feed::next_line` says; the source is lent to each call.
-    pub fn next_line<S: Source>(&mut self, source: &mut S) -> Result<Option<Bytes>, LineFault>
-        ensures line { IfOk result (λ found. IfSome (to_come self.old (S.left source.old)) (λ input. found ≡ option_map content (first_line input))) }
-        ensures behind { OnOk result (IfSome (to_come self.old (S.left source.old)) (λ input. to_come self.new (S.left source.new) ≡ Some (after_line input))) }
-        ensures fits { OnOk result (IfSome (to_come self.old (S.left source.old)) (λ input. IfSome (first_line input) (λ line. is_too_long line ≡ false))) }
-        ensures last { OnOk result (IfSome (to_come self.old (S.left source.old)) (λ input. IfSome (first_line input) (λ line. line.is_ended ≡ false → self.new.is_over ≡ true))) }
-        ensures end { (result ≡ Ok None) → (self.new.bytes ≡ []) × (self.new.is_over ≡ true) }
-
-        ensures too_long { IsErrOf result LineFault.TooLong → IfSome (to_come self.old (S.left source.old)) (λ input. IsSomeAnd (first_line input) (λ line. is_too_long line ≡ true)) }
-        ensures holds_too_much { IsErrOf result LineFault.TooLong → longest_line < position_or_len is_line_feed self.new.bytes }
-        ensures read { IsErrOf result LineFault.Read → Rose (S.source_faults source.old) (S.source_faults source.new) }
-        // Each line that was pulled whole was given.
-        ensures between_lines { IsErrOf result LineFault.Read → (self.new.is_over ≡ false) × HasNoEnd self.new.bytes }
-        ensures kept { OnErr result (IsKept (to_come self.old (S.left source.old)) (to_come self.new (S.left source.new))) }
-
-        // What the source says of its end holds on, and it isn't asked again.
-        ensures over_stays { self.old.is_over ≡ true → (self.new.is_over ≡ true) × (S.left source.new ≡ S.left source.old) }
-        ensures drained { self.old.is_over ≡ false → self.new.is_over ≡ true → IsSome (S.left source.old) → S.left source.new ≡ Some [] }
-        ensures told { IsSome (S.left source.old) → IsSome (S.left source.new) }
-
-        ensures bounded { length self.new.bytes ≤ longest_line + piece_size }
-        ensures never_falls { S.source_faults source.old ≤ S.source_faults source.new }
-        ensures quiet { S.source_is_quiet source.new ≡ S.source_is_quiet source.old }
+    /// The next line of a source, which is lent to each call.
+    fn next_line<S: Source>(&mut self, source: &mut S) -> Result<Option<Bytes>, LineFault>
+        ensures line { GivesLine result (feed_of self.old (S.seen source.old)) (feed_of self.new (S.seen source.new)) }
+        ensures keeps { KeepsFeed (feed_of self.old (S.seen source.old)) (feed_of self.new (S.seen source.new)) }
+        ensures bounded { IsBounded (feed_of self.new (S.seen source.new)) }
     {
         match self.buffer.find_end(source) {
             Ok(ended) => Ok(self.buffer.give(ended)),
@@ -265,7 +230,7 @@ impl<'a, S: Source> Feed<'a, S> {
     pub fn make(alloc: Global, source: &'a mut S) -> Feed<'a, S>
         ensures same_source { result.source.ghost_name ≡ source.entry.ghost_name }
         ensures source { result.source.now ≡ source.old }
-        ensures nothing { result.buffer ≡ nothing_held }
+        ensures nothing { result.buffer ≡ nothing_buffered }
     {
         Feed {
             source,
@@ -277,32 +242,15 @@ impl<'a, S: Source> Feed<'a, S> {
     /// rest that isn't empty is the last line, and keeps its carriage return. `None` at the end of the
     /// input; the source is not asked again after it said that the input ends.
     ///
+    /// # Errors
     /// `Read` where the source failed, `TooLong` where the next line has more than 1,048,576 bytes, the
     /// carriage return counted, `Memory` where the allocator had none left. No error takes anything from
     /// what is to come.
     pub fn next_line(&mut self) -> Result<Option<Bytes>, LineFault>
         ensures same_source { self.new.source.ghost_name ≡ self.old.source.ghost_name }
-        ensures line { IfOk result (λ found. IfSome (to_come self.old.buffer (S.left self.old.source.now)) (λ input. found ≡ option_map content (first_line input))) }
-        ensures behind { OnOk result (IfSome (to_come self.old.buffer (S.left self.old.source.now)) (λ input. to_come self.new.buffer (S.left self.new.source.now) ≡ Some (after_line input))) }
-        ensures fits { OnOk result (IfSome (to_come self.old.buffer (S.left self.old.source.now)) (λ input. IfSome (first_line input) (λ line. is_too_long line ≡ false))) }
-        ensures last { OnOk result (IfSome (to_come self.old.buffer (S.left self.old.source.now)) (λ input. IfSome (first_line input) (λ line. line.is_ended ≡ false → self.new.buffer.is_over ≡ true))) }
-        ensures end { (result ≡ Ok None) → (self.new.buffer.bytes ≡ []) × (self.new.buffer.is_over ≡ true) }
-
-        ensures too_long { IsErrOf result LineFault.TooLong → IfSome (to_come self.old.buffer (S.left self.old.source.now)) (λ input. IsSomeAnd (first_line input) (λ line. is_too_long line ≡ true)) }
-        ensures holds_too_much { IsErrOf result LineFault.TooLong → longest_line < position_or_len is_line_feed self.new.buffer.bytes }
-        ensures read { IsErrOf result LineFault.Read → Rose (S.source_faults self.old.source.now) (S.source_faults self.new.source.now) }
-        // Each line that was pulled whole was given.
-        ensures between_lines { IsErrOf result LineFault.Read → (self.new.buffer.is_over ≡ false) × HasNoEnd self.new.buffer.bytes }
-        ensures kept { OnErr result (IsKept (to_come self.old.buffer (S.left self.old.source.now)) (to_come self.new.buffer (S.left self.new.source.now))) }
-
-        // What the source says of its end holds on, and it isn't asked again.
-        ensures over_stays { self.old.buffer.is_over ≡ true → (self.new.buffer.is_over ≡ true) × (S.left self.new.source.now ≡ S.left self.old.source.now) }
-        ensures drained { self.old.buffer.is_over ≡ false → self.new.buffer.is_over ≡ true → IsSome (S.left self.old.source.now) → S.left self.new.source.now ≡ Some [] }
-        ensures told { IsSome (S.left self.old.source.now) → IsSome (S.left self.new.source.now) }
-
-        ensures bounded { length self.new.buffer.bytes ≤ longest_line + piece_size }
-        ensures never_falls { S.source_faults self.old.source.now ≤ S.source_faults self.new.source.now }
-        ensures quiet { S.source_is_quiet self.new.source.now ≡ S.source_is_quiet self.old.source.now }
+        ensures line { GivesLine result (feed_of self.old.buffer (S.seen self.old.source.now)) (feed_of self.new.buffer (S.seen self.new.source.now)) }
+        ensures keeps { KeepsFeed (feed_of self.old.buffer (S.seen self.old.source.now)) (feed_of self.new.buffer (S.seen self.new.source.now)) }
+        ensures bounded { IsBounded (feed_of self.new.buffer (S.seen self.new.source.now)) }
     {
         self.buffer.next_line(self.source)
     }

@@ -4,7 +4,7 @@ ghost use Rattle.std.specs.Prelude.{◌≡◌, ◌∷◌, ◌++◌, [], codes, I
 ghost use Rattle.std.specs.Fmt.{decimal};
 ghost use Rattle.code_mode.specs.Mode.{mode_name};
 ghost use Rattle.hex.specs.Hex.{encode_lower};
-ghost use Rattle.node_runner.specs.Text.{spaced, subject_of, ending_of, words_of_reply, line_of_reply};
+ghost use Rattle.node_runner.specs.Text.{spaced, subject_of, ending_of, words_of_reply, text_of_reply};
 
 use crate::command::Command;
 use crate::reply::{LineReply, Refusal};
@@ -132,7 +132,7 @@ fn push_reply(alloc: Global, line: &mut Vec<u8>, reply: &LineReply) -> Result<()
 /// # Errors
 /// `NoMemory`, where the allocator has no room for the line.
 pub fn print_reply(alloc: Global, reply: &LineReply) -> Result<Bytes, NoMemory>
-    ensures line { IfOk result (λ text. text ≡ line_of_reply reply.now) }
+    ensures line { IfOk result (λ text. text ≡ text_of_reply reply.now) }
 {
     let mut line = Vec::new(alloc);
     push_reply(alloc, &mut line, reply)?;

@@ -97,11 +97,7 @@ struct Drip {
 }
 
 impl Source for Drip {
-    ghost left = { λ drip. Some drip.inner.left };
-
-    ghost source_faults = { λ drip. drip.inner.plan.faults };
-
-    ghost source_is_quiet = { λ drip. is_quiet drip.inner.plan };
+    ghost seen = { λ drip. record { left = Some drip.inner.left; faults = drip.inner.plan.faults; is_quiet = is_quiet drip.inner.plan } };
 
     ghost quiet_has_no_fault = { λ drip quiet. quiet_is_zero drip.inner.plan quiet };
 

@@ -1,14 +1,16 @@
 //! Runs of whole scripts, with their texts written out.
 
-ghost use Rattle.std.specs.Prelude.{None};
+ghost use Rattle.std.specs.Prelude.{None, refl, true, false};
 ghost use Rattle.disk_base.specs.Faults.{is_quiet, quiet_is_zero};
 
 use crate::{
-    Body, Command, LineReply, Outcome, Refusal, get_shows_what_was_put, lines_come_one_by_one,
-    print_reply, put_enters_a_name_once, run,
+    Body, Command, LineReply, Outcome, Refusal, commands_decide_the_session,
+    get_shows_what_was_put, lines_come_one_by_one, print_reply, put_enters_a_new_name, run,
 };
+use code_mode::Payload;
 use disk_base::{Failed, MemSink, MemSource, Sink, Source};
 use std::alloc::Global;
+use std::cell::Cell;
 use std::test::Fail;
 use unit_id::Bytes;
 
@@ -20,11 +22,7 @@ struct Sips {
 }
 
 impl Source for Sips {
-    ghost left = { λ _. None };
-
-    ghost source_faults = { λ sips. sips.source.plan.faults };
-
-    ghost source_is_quiet = { λ sips. is_quiet sips.source.plan };
+    ghost seen = { λ sips. record { left = None; faults = sips.source.plan.faults; is_quiet = is_quiet sips.source.plan } };
 
     ghost quiet_has_no_fault = { λ sips. quiet_is_zero sips.source.plan };
 
@@ -42,11 +40,7 @@ struct Narrow {
 }
 
 impl Sink for Narrow {
-    ghost held = { λ _. None };
-
-    ghost sink_faults = { λ narrow. narrow.sink.plan.faults };
-
-    ghost is_handed_on = { λ narrow. narrow.sink.is_handed_on };
+    ghost seen = { λ narrow. record { held = None; faults = narrow.sink.plan.faults; is_handed_on = narrow.sink.is_handed_on } };
 
     fn push(&mut self, bytes: &[u8]) -> Result<usize, Failed> {
         let most = self.most.clamp(1, bytes.len());
@@ -269,6 +263,114 @@ fn a_close_that_fails_is_a_write_fault(rt: HostRuntime) -> Result<(), Fail> {
     Ok(())
 }
 
+/// A source that hands out one line a pull, and sees whether each line before was answered by then.
+#[derive(Drop)]
+struct OneByOne<'a> {
+    lines: &'a [&'a str],
+    pulls: usize,
+    pushes: &'a Cell<usize>,
+    is_ahead: bool,
+}
+
+impl Source for OneByOne<'_> {
+    ghost seen = { λ _. record { left = None; faults = 0; is_quiet = false } };
+
+    ghost quiet_has_no_fault = { λ _ _. refl };
+
+    fn pull(&mut self, out: &mut [u8]) -> Result<usize, Failed> {
+        if self.pushes.get() != self.pulls {
+            self.is_ahead = true;
+        }
+        if self.pulls >= self.lines.len() {
+            return Ok(0);
+        }
+        let line = self.lines[self.pulls].as_bytes();
+        let count = line.len().min(out.len());
+        out[..count].copy_from_slice(&line[..count]);
+        self.pulls += 1;
+        Ok(count)
+    }
+}
+
+/// A sink that takes all, and counts its pushes.
+#[derive(Drop)]
+struct Counted<'a> {
+    pushes: &'a Cell<usize>,
+}
+
+impl Sink for Counted<'_> {
+    ghost seen = { λ _. record { held = None; faults = 0; is_handed_on = true } };
+
+    fn push(&mut self, bytes: &[u8]) -> Result<usize, Failed> {
+        self.pushes.set(self.pushes.get().saturating_add(1));
+        Ok(bytes.len())
+    }
+
+    fn finish(&mut self) -> Result<(), Failed> {
+        Ok(())
+    }
+}
+
+#[test]
+fn each_line_is_answered_before_the_next_is_read(rt: HostRuntime) -> Result<(), Fail> {
+    let pushes = Cell::new(0);
+    let mut source = OneByOne {
+        lines: &["disks 9\n", "volume EC6P3\n", "put a 00\n", "get a\n"],
+        pulls: 0,
+        pushes: &pushes,
+        is_ahead: false,
+    };
+    let mut sink = Counted { pushes: &pushes };
+    let words = vec![in rt.alloc(); format!(in rt.alloc(); "root")?]?;
+    let outcome = run(rt.alloc(), &words, &mut source, &mut sink);
+    assert_eq!(rt;
+        outcome,
+        Outcome {
+            status: 0,
+            lines: 4
+        }
+    );
+    assert_eq!(rt; source.pulls, 4);
+    assert!(rt; !source.is_ahead);
+    Ok(())
+}
+
+#[test]
+fn long_lines_are_bad_and_large_objects_are_got(rt: HostRuntime) -> Result<(), Fail> {
+    let long = vec![in rt.alloc(); b'#'; 1_048_577]?;
+    let long = format!(in rt.alloc(); "disks 9\n{}\n", str::from_utf8(&long).unwrap_or(""))?;
+    let (outcome, sink) = ran(rt.alloc(), &plain(long.as_str()))?;
+    assert_eq!(rt;
+        outcome,
+        Outcome {
+            status: 1,
+            lines: 1
+        }
+    );
+    assert_eq!(rt; sink.as_slice(), b"disks 9\n".as_slice());
+    let payload = Payload::Fill {
+        seed: 5,
+        len: 65_537,
+    }
+    .bytes(rt.alloc())?;
+    let digits = hex::encode(rt.alloc(), payload.as_slice())?;
+    let text = format!(in rt.alloc();
+        "disks 9\nvolume 1 EC6P3\nput a vid 1 bid 1 size 65537\ngot a {digits}\n"
+    )?;
+    let mut given = plain("disks 9\nvolume EC6P3\nput a fill 5 65537\nget a\n");
+    given.room = text.len();
+    let (outcome, sink) = ran(rt.alloc(), &given)?;
+    assert_eq!(rt;
+        outcome,
+        Outcome {
+            status: 0,
+            lines: 4
+        }
+    );
+    assert_eq!(rt; sink.as_slice(), text.as_bytes());
+    Ok(())
+}
+
 /// A byte string of this text.
 fn bytes(alloc: Global, text: &str) -> Result<Bytes, Fail> {
     Ok(Bytes::from_vec(Vec::from_slice(alloc, text.as_bytes())?))
@@ -277,7 +379,8 @@ fn bytes(alloc: Global, text: &str) -> Result<Bytes, Fail> {
 #[test]
 fn replies_are_printed(rt: HostRuntime) -> Result<(), Fail> {
     get_shows_what_was_put();
-    put_enters_a_name_once();
+    put_enters_a_new_name();
+    commands_decide_the_session();
     lines_come_one_by_one();
     let got = LineReply::Got {
         name: bytes(rt.alloc(), "n")?,

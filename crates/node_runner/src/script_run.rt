@@ -1,15 +1,16 @@
 //! A run of a script, from its bytes to the printed bytes.
 
-ghost use Rattle.std.specs.Prelude.{◌≡◌, ◌≢◌, ◌≤◌, ◌==◌, ◌⊎◌, not, true, IfSome, IsSome, Some, map};
+ghost use Rattle.std.specs.Prelude.{◌≡◌, ◌≤◌, false, map};
 ghost use Rattle.std.specs.String.{string_bytes};
-ghost use Rattle.disk_base.specs.Faults.{Rose};
-ghost use Rattle.node_runner.specs.Lines.{to_come, nothing_held, cut_lines, whole_lines, HasNoEnd};
+ghost use Rattle.node_runner.specs.Feeding.{feed_of, KeepsFeed};
+ghost use Rattle.node_runner.specs.Lines.{nothing_buffered};
 ghost use Rattle.node_runner.specs.Session.{fresh, ShowsWhatWasPut};
-ghost use Rattle.node_runner.specs.Run.{most_lines, good_lines, text_of_lines, pulled, are_right_words, Gains, RunsWhole, StopsAtBadLine, StopsBehindWholeLines, WritesPart};
-ghost use Rattle.node_runner.specs.Progress.{IsAtEnd, ReadsLast, EndsRun, CloseStatus};
+ghost use Rattle.node_runner.specs.Run.{are_right_words, is_usage, Runs};
+ghost use Rattle.node_runner.specs.Progress.{Stops, HasMore, RunsLines, KeepsCounts, Closes};
 
+use crate::ending::Ending;
 use crate::feed::Feed;
-use crate::line_run::{Stop, read_line, run_line};
+use crate::line_run::run_line;
 use crate::store::Store;
 use disk_base::{Sink, Source};
 use std::alloc::Global;
@@ -37,28 +38,24 @@ fn are_right_words(words: &[String]) -> bool
     root.is_empty() || root[0] != b'-'
 }
 
-/// Reads once more, behind the last line that may be, and answers why the run ends there.
-fn read_last<S: Source>(feed: &mut Feed<S>) -> Option<Stop>
+/// Reads once more, behind the last line that may be, and answers how the run ends there.
+fn read_last<S: Source>(feed: &mut Feed<S>) -> Ending
     ensures same_source { feed.new.source.ghost_name ≡ feed.old.source.ghost_name }
-    ensures line { ReadsLast result (to_come feed.old.buffer (S.left feed.old.source.now)) (to_come feed.new.buffer (S.left feed.new.source.now)) feed.old.buffer.is_over feed.new.buffer.is_over }
-    ensures between { result ≡ Some Stop.Read → HasNoEnd feed.new.buffer.bytes }
-    ensures read { result ≡ Some Stop.Read → Rose (S.source_faults feed.old.source.now) (S.source_faults feed.new.source.now) }
-    ensures count { S.source_faults feed.old.source.now ≤ S.source_faults feed.new.source.now }
-    ensures told { IsSome (S.left feed.old.source.now) → IsSome (S.left feed.new.source.now) }
-    ensures at_end { IsSome (S.left feed.old.source.now) → IsAtEnd feed.old.buffer.is_over (S.left feed.old.source.now) → IsAtEnd feed.new.buffer.is_over (S.left feed.new.source.now) }
+    ensures stops { Stops result (feed_of feed.old.buffer (S.seen feed.old.source.now)) (feed_of feed.new.buffer (S.seen feed.new.source.now)) HasMore }
+    ensures feed { KeepsFeed (feed_of feed.old.buffer (S.seen feed.old.source.now)) (feed_of feed.new.buffer (S.seen feed.new.source.now)) }
 {
-    match read_line(feed) {
-        Ok(Some(_)) => Some(Stop::Bad),
-        Ok(None) => None,
-        Err(stop) => Some(stop),
+    match feed.next_line() {
+        Ok(Some(_)) => Ending::BadLine,
+        Ok(None) => Ending::Whole,
+        Err(fault) => Ending::from(fault),
     }
 }
 
-/// How far the lines of a run came, and why they ended before the end of the input, where they did.
+/// How many lines of a run ran whole, and how it ended.
 #[derive(Drop)]
 struct Ended {
     lines: u64,
-    stop: Option<Stop>,
+    ending: Ending,
 }
 
 /// Runs line after line.
@@ -68,45 +65,26 @@ fn run_from<S: Source, K: Sink>(
     store: &mut Store,
     sink: &mut K,
 ) -> Ended
-    requires feed { feed.old.buffer ≡ nothing_held }
-    requires store { store.old ≡ fresh }
+    requires { (feed.old.buffer ≡ nothing_buffered) × (store.old ≡ fresh) }
     ensures same_source { feed.new.source.ghost_name ≡ feed.old.source.ghost_name }
-    ensures end { IfSome (S.left feed.old.source.now) (λ input. EndsRun result.stop input (S.left feed.new.source.now) result.lines (K.held sink.old) (K.held sink.new) × WritesPart input result.lines (K.held sink.old) (K.held sink.new)) }
-    ensures read { result.stop ≡ Some Stop.Read → Rose (S.source_faults feed.old.source.now) (S.source_faults feed.new.source.now) }
-    ensures write { result.stop ≡ Some Stop.Write → Rose (K.sink_faults sink.old) (K.sink_faults sink.new) }
-    ensures source_count { S.source_faults feed.old.source.now ≤ S.source_faults feed.new.source.now }
-    ensures sink_count { K.sink_faults sink.old ≤ K.sink_faults sink.new }
-    ensures told { IsSome (S.left feed.old.source.now) → IsSome (S.left feed.new.source.now) }
-    ensures few { result.lines ≤ most_lines }
+    ensures ends { RunsLines (S.seen feed.old.source.now) (S.seen feed.new.source.now) (K.seen sink.old) (K.seen sink.new) result.ending result.lines }
 {
     for lines in 0..MOST_LINES {
         match run_line(alloc, feed, store, sink) {
-            Ok(true) => {}
-            Ok(false) => return Ended { lines, stop: None },
-            Err(stop) => {
-                return Ended {
-                    lines,
-                    stop: Some(stop),
-                };
-            }
+            Ok(()) => {}
+            Err(ending) => return Ended { lines, ending },
         }
     }
-    let stop = read_last(feed);
+    let ending = read_last(feed);
     Ended {
         lines: MOST_LINES,
-        stop,
+        ending,
     }
 }
 
 /// Runs all lines of a source.
 fn run_lines<S: Source, K: Sink>(alloc: Global, source: &mut S, sink: &mut K) -> Ended
-    ensures end { IfSome (S.left source.old) (λ input. EndsRun result.stop input (S.left source.new) result.lines (K.held sink.old) (K.held sink.new) × WritesPart input result.lines (K.held sink.old) (K.held sink.new)) }
-    ensures read { result.stop ≡ Some Stop.Read → Rose (S.source_faults source.old) (S.source_faults source.new) }
-    ensures write { result.stop ≡ Some Stop.Write → Rose (K.sink_faults sink.old) (K.sink_faults sink.new) }
-    ensures source_count { S.source_faults source.old ≤ S.source_faults source.new }
-    ensures sink_count { K.sink_faults sink.old ≤ K.sink_faults sink.new }
-    ensures told { IsSome (S.left source.old) → IsSome (S.left source.new) }
-    ensures few { result.lines ≤ most_lines }
+    ensures { RunsLines (S.seen source.old) (S.seen source.new) (K.seen sink.old) (K.seen sink.new) result.ending result.lines }
 {
     let mut feed = Feed::make(alloc, source);
     let mut store = Store::make(alloc);
@@ -115,25 +93,19 @@ fn run_lines<S: Source, K: Sink>(alloc: Global, source: &mut S, sink: &mut K) ->
     ended
 }
 
-/// The status of a run that ended so. Where the lines ended well, at a bad line or at a failed pull, the
-/// sink is asked to hand on what it holds, and its failure is the status instead.
-fn close<K: Sink>(sink: &mut K, stop: Option<Stop>) -> u8
-    ensures status { CloseStatus stop result }
-    ensures write { result ≡ 4 → (stop ≡ Some Stop.Write) ⊎ Rose (K.sink_faults sink.old) (K.sink_faults sink.new) }
-    ensures held { K.held sink.new ≡ K.held sink.old }
-    ensures handed_on { result ≤ 3 → K.is_handed_on sink.new ≡ true }
-    ensures count { K.sink_faults sink.old ≤ K.sink_faults sink.new }
+/// How a run ends whose lines ended so. Where they ended well, at a bad line or at a failed pull, the
+/// sink is asked to hand on what it holds, and its failure is the end instead.
+fn close<K: Sink>(sink: &mut K, ending: Ending) -> Ending
+    requires { is_usage ending ≡ false }
+    ensures ends { Closes ending result (K.seen sink.old) (K.seen sink.new) }
+    ensures count { (K.seen sink.old).faults ≤ (K.seen sink.new).faults }
 {
-    let status = match stop {
-        None => 0,
-        Some(Stop::Bad) => 1,
-        Some(Stop::Read) => 3,
-        Some(Stop::Write) => return 4,
-        Some(Stop::Memory) => return 5,
-    };
+    if !ending.is_closed() {
+        return ending;
+    }
     match sink.finish() {
-        Ok(()) => status,
-        Err(_) => 4,
+        Ok(()) => ending,
+        Err(_) => Ending::WriteFault,
     }
 }
 
@@ -159,39 +131,20 @@ pub fn run<S: Source, K: Sink>(
     source: &mut S,
     sink: &mut K,
 ) -> Outcome
-    ensures range { result.status ≤ 5 }
-    ensures usage { (result.status == 2) ≡ not (are_right_words (map string_bytes words.now)) }
+    ensures runs { Runs (map string_bytes words.now) (S.seen source.old) (S.seen source.new) (K.seen sink.old) (K.seen sink.new) result.status result.lines }
     ensures untouched { result.status ≡ 2 → (source.new ≡ source.old) × (sink.new ≡ sink.old) × (result.lines ≡ 0) }
-
-    ensures whole { result.status ≡ 0 → IfSome (S.left source.old) (λ input. RunsWhole input (S.left source.new) result.lines) }
-    ensures bad_line { result.status ≡ 1 → IfSome (S.left source.old) (λ input. StopsAtBadLine input result.lines) }
-    ensures text { result.status ≤ 1 → IfSome (S.left source.old) (λ input. Gains (K.held sink.old) (text_of_lines (good_lines (cut_lines input))) (K.held sink.new)) }
-
-    ensures read_fault { result.status ≡ 3 → Rose (S.source_faults source.old) (S.source_faults source.new) }
-    ensures whole_lines { result.status ≡ 3 → IfSome (S.left source.old) (λ input. IfSome (S.left source.new) (λ rest. StopsBehindWholeLines input rest result.lines)) }
-    ensures text_of_whole_lines { result.status ≡ 3 → IfSome (S.left source.old) (λ input. IfSome (S.left source.new) (λ rest. Gains (K.held sink.old) (text_of_lines (whole_lines (pulled input rest))) (K.held sink.new))) }
-
-    ensures write_fault { result.status ≡ 4 → Rose (K.sink_faults sink.old) (K.sink_faults sink.new) }
-    ensures part { 4 ≤ result.status → IfSome (S.left source.old) (λ input. WritesPart input result.lines (K.held sink.old) (K.held sink.new)) }
-
-    // Behind the last push a finish was answered Ok; where it failed, the status is 4.
-    ensures handed_on { result.status ≤ 3 → result.status ≢ 2 → K.is_handed_on sink.new ≡ true }
-
-    // A `got` line in these texts shows the bytes of the put that entered its name.
     ensures integrity { ShowsWhatWasPut }
-    ensures told { IsSome (S.left source.old) → IsSome (S.left source.new) }
-    ensures few { result.lines ≤ most_lines }
-    ensures source_count { S.source_faults source.old ≤ S.source_faults source.new }
-    ensures sink_count { K.sink_faults sink.old ≤ K.sink_faults sink.new }
 {
     if !are_right_words(words) {
         return Outcome {
-            status: 2,
+            status: Ending::Usage.status(),
             lines: 0,
         };
     }
     let ended = run_lines(alloc, source, sink);
-    let lines = ended.lines;
-    let status = close(sink, ended.stop);
-    Outcome { status, lines }
+    let ending = close(sink, ended.ending);
+    Outcome {
+        status: ending.status(),
+        lines: ended.lines,
+    }
 }

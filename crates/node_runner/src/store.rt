@@ -1,13 +1,13 @@
 //! What a run keeps between its lines: the disks, the volume and the objects.
 
 ghost use Rattle.std.specs.Prelude.{◌≡◌, ◌<◌, ◌≤◌, ◌+◌, ◌^◌, ◌∷◌, ◌++◌, [], length, is_some, OnOk, OnErr, IfOk, Some, None};
-ghost use Rattle.node_runner.specs.Session.{bytes_of, size_of, largest_object, named, fresh, reply_of, state_after, disks_refusal, volume_refusal, put_refusal};
+ghost use Rattle.node_runner.specs.Session.{bytes_of, size_of, largest_object, named, fresh, Answers, disks_refusal, volume_refusal, put_refusal};
 ghost use Rattle.node_runner.specs.declared.command.Command.TheVariants as commands;
 
 use crate::command::{Body, Command};
 use crate::reply::{LineReply, Refusal};
 use crate::volume::Volume;
-use code_mode::{Mode, Payload};
+use code_mode::{BLOB_LIMIT, Mode, Payload};
 use disk_base::NoMemory;
 use std::alloc::Global;
 use std::marker::Model;
@@ -16,8 +16,8 @@ use unit_id::Bytes;
 /// The most disks that a store has.
 const MOST_DISKS: u32 = 64;
 
-/// The most bytes of an object.
-const LARGEST_OBJECT: u64 = 4_194_304;
+/// The most bytes of an object, which is one blob.
+const LARGEST_OBJECT: u64 = BLOB_LIMIT as u64;
 
 /// The number of the one volume.
 const FIRST_VOLUME: u32 = 1;
@@ -140,8 +140,7 @@ impl Store {
 
     /// `disks D`
     fn disks(&mut self, count: u32) -> LineReply
-        ensures reply { result ≡ reply_of self.old (commands.Disks count) }
-        ensures state { self.new ≡ state_after self.old (commands.Disks count) }
+        ensures { Answers self.old (commands.Disks count) result self.new }
     {
         match self.disks_refusal(count) {
             Some(cause) => refused(Command::Disks { count }, cause),
@@ -154,8 +153,7 @@ impl Store {
 
     /// `volume MODE`
     fn volume(&mut self, mode: Mode) -> Result<LineReply, NoMemory>
-        ensures reply { IfOk result (λ reply. reply ≡ reply_of self.old (commands.Volume mode)) }
-        ensures state { OnOk result (self.new ≡ state_after self.old (commands.Volume mode)) }
+        ensures reply { IfOk result (λ reply. Answers self.old (commands.Volume mode) reply self.new) }
         ensures err { OnErr result (self.new ≡ self.old) }
     {
         match self.volume_refusal(mode) {
@@ -173,8 +171,7 @@ impl Store {
 
     /// `put NAME`, with what it carries
     fn put(&mut self, name: Bytes, body: Body) -> Result<LineReply, NoMemory>
-        ensures reply { IfOk result (λ reply. reply ≡ reply_of self.old (commands.Put name body)) }
-        ensures state { OnOk result (self.new ≡ state_after self.old (commands.Put name body)) }
+        ensures reply { IfOk result (λ reply. Answers self.old (commands.Put name body) reply self.new) }
         ensures err { OnErr result (self.new ≡ self.old) }
     {
         let size = size_of(&body);
@@ -198,8 +195,8 @@ impl Store {
 
     /// `get NAME`
     fn get(&mut self, name: Bytes) -> Result<LineReply, NoMemory>
-        ensures reply { IfOk result (λ reply. reply ≡ reply_of self.old (commands.Get name)) }
-        ensures same { self.new ≡ self.old }
+        ensures reply { IfOk result (λ reply. Answers self.old (commands.Get name) reply self.new) }
+        ensures err { OnErr result (self.new ≡ self.old) }
     {
         let found = match &mut self.volume {
             Some(volume) => volume.get(name.as_slice())?,
@@ -213,8 +210,7 @@ impl Store {
 
     /// Does a command, and answers its reply.
     pub fn answer(&mut self, command: Command) -> Result<LineReply, NoMemory>
-        ensures reply { IfOk result (λ reply. reply ≡ reply_of self.old command) }
-        ensures state { OnOk result (self.new ≡ state_after self.old command) }
+        ensures reply { IfOk result (λ reply. Answers self.old command reply self.new) }
         ensures err { OnErr result (self.new ≡ self.old) }
     {
         match command {

@@ -4,6 +4,7 @@ ghost use Rattle.std.specs.Prelude.{◌≡◌, ◌+◌, ◌<◌, ◌≤◌, leng
 ghost use Rattle.rs_code.specs.Shards.{shard_at, held_count, size_of};
 ghost use Rattle.rs_code.specs.ShardValue.{rebuilt, filled};
 ghost use Rattle.code_mode.specs.Mode.{data_count, parity_count};
+ghost use Rattle.code_mode.specs.Stripe.{shard_of};
 ghost use Rattle.node_runner.specs.Session.{largest_object};
 ghost use Rattle.node_runner.specs.Stripes.{shape_of, blob_in, IsStripe};
 
@@ -77,7 +78,29 @@ pub fn shards_of(
     Ok(shards)
 }
 
-/// The blob of all its shards: the data shards are rebuilt from the least that are held, and joined.
+/// A data shard of a blob: copied where it is held, else rebuilt by those that are.
+fn data_shard(
+    alloc: Global,
+    mode: Mode,
+    coder: &mut Coder,
+    size: u32,
+    shards: &Shards,
+    index: usize,
+) -> Result<Bytes, NoMemory>
+    requires coder { coder.old ≡ shape_of mode }
+    requires stripe { IsStripe mode size shards.now }
+    requires within { index < data_count mode }
+    ensures shard { IfOk result (λ bytes. bytes ≡ shard_of mode (blob_in mode size shards.now) index) }
+    ensures shape { coder.new ≡ coder.old }
+{
+    any_shards_give_the_blob();
+    match shards.get(index) {
+        Some(held) => Ok(Bytes::from_vec(Vec::from_slice(alloc, held)?)),
+        None => rebuild(coder, shards, index),
+    }
+}
+
+/// The blob of all its shards: the data shards that are held are copied, and only the others rebuilt.
 pub fn blob_of(
     alloc: Global,
     mode: Mode,
@@ -93,7 +116,7 @@ pub fn blob_of(
     any_shards_give_the_blob();
     let mut found = Shards::make(alloc, mode.total() as usize);
     'pieces: for index in 0..mode.n() as usize {
-        let piece = rebuild(coder, shards, index)?;
+        let piece = data_shard(alloc, mode, coder, size, shards, index)?;
         hold(&mut found, index, piece)?;
     }
     join(alloc, mode, size, &found)

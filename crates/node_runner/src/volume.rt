@@ -16,7 +16,7 @@ use unit_id::Bytes;
 
 /// An object that a put entered: all shards of its one blob.
 #[derive(Drop)]
-struct Kept {
+struct StoredObject {
     bid: u64,
     size: u32,
     shards: Shards,
@@ -28,15 +28,15 @@ pub struct Volume {
     alloc: Global,
     mode: Mode,
     coder: Coder,
-    kept: IndexMap<Vec<u8>, Kept>,
+    kept: IndexMap<Vec<u8>, StoredObject>,
 }
 
 impl Model for Volume {
-    ghost use Rattle.node_runner.specs.Kept.{VolumeState};
+    ghost use Rattle.node_runner.specs.Volumes.{VolumeState};
 
     ghost Value = { VolumeState };
 
-    ghost use Rattle.node_runner.specs.KeptInside.{volume_of, IsSound};
+    ghost use Rattle.node_runner.specs.VolumeInside.{volume_of, IsSound};
 
     ghost view = { volume_of };
 
@@ -85,7 +85,7 @@ impl Volume {
         let bid = self.kept.len() as u64 + 1;
         let size = bytes.len() as u32;
         let shards = shards_of(self.alloc, self.mode, &mut self.coder, bytes)?;
-        self.kept.insert(key, Kept { bid, size, shards })?;
+        self.kept.insert(key, StoredObject { bid, size, shards })?;
         Ok(bid)
     }
 

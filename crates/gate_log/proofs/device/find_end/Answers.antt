@@ -1,45 +1,56 @@
-use Rattle.std.proofs.Common.{◌≡◌, ◌≤◌, length, Some, None, sym, ap, rules, Err, ◌∙◌, subst, arith}
-use Rattle.gate_log.specs.LogFile.{bad_chain}
-use Rattle.gate_log.specs.GateLog.{FindsAt, IsBroken}
-use Rattle.gate_log.specs.declared.fault.LogFault.TheVariants.{BadChain}
+use Rattle.std.proofs.Common.{◌≡◌, ◌≤◌, length, Some, None, refl, sym, rules, Err, ◌∙◌, subst, arith}
+use Rattle.disk_base.specs.Moments.{reads_none, reads_on, lasts_none, lasts_on}
+use Rattle.gate_log.specs.GateLog.{FindsAt, EndAnswers}
 use Rattle.gate_log.proofs.Fetch.{if_some, at_some}
-use Rattle.gate_log.proofs.Follow.{walk_on, ends, ends_past, breaks, reads_on}
+use Rattle.gate_log.proofs.Follow.{counted_start, counted_on, counted_ends, counted_past, next_refuses}
 use Rattle.gate_log.proofs.device.find_end.Goals as goal
 
-pub returns-in_err-find_next-clause-broken : goal.returns-in_err-find_next-clause-broken
-returns-in_err-find_next-clause-broken g c = λ p is. if_some (g.E.Extent.content c.args.file.now) _ (λ bytes told long.
+pub returns-in_err-find_next-clause-answer : goal.returns-in_err-find_next-clause-answer
+returns-in_err-find_next-clause-answer g c =
     let i = c.loop-place.invariant in
-    let now : g.E.Extent.content c.loop-place.file ≡ Some bytes = i.reads.same ∙ told in
-    let same : c.find_next.result ≡ Err (BadChain p) = c.in_err-find_next.was ∙ search rules in
-    let b = c.find_next.ensures.broken p same in
-    let broken : IsBroken bytes c.args.len c.loop-place.place =
-    at_some (g.E.Extent.content c.loop-place.file) bytes (λ b. c.args.len ≤ length b → IsBroken b c.args.len c.loop-place.place) now b.1 (omega arith) in
-    breaks bytes c.loop-place.place (i.walk bytes told long) (subst (λ n. IsBroken bytes n c.loop-place.place) long broken) ∙ ap bad_chain (sym b.0))
+    let e = c.in_err-find_next.field-0.0 in
+    let is : c.from_residual.result ≡ Err e = search rules in
+    subst (EndAnswers c.args.len (g.E.Extent.seen c.args.file.now) (g.E.Extent.seen c.find_next.new.file)) (sym is)
+    (next_refuses c.args.len c.loop-place.place (g.E.Extent.seen c.loop-place.file).content (g.E.Extent.seen c.args.file.now) (g.E.Extent.seen c.find_next.new.file) e i.reads.same
+    (λ file told long. (i.walk file told long).walk) c.in_err-find_next.ensures.answer)
 
-pub returns-in-None-clause-end : goal.returns-in-None-clause-end
-returns-in-None-clause-end g c = if_some (g.E.Extent.content c.args.file.now) _ (λ bytes told long.
-    let i = c.loop-place.invariant in
-    let now : g.E.Extent.content c.loop-place.file ≡ Some bytes = i.reads.same ∙ told in
-    let found : FindsAt bytes c.args.len c.loop-place.place None = subst (FindsAt bytes c.args.len c.loop-place.place) c.in-None.is
-    (at_some (g.E.Extent.content c.loop-place.file) bytes (λ b. c.args.len ≤ length b → FindsAt b c.args.len c.loop-place.place c.in_ok-find_next.field-0) now c.in_ok-find_next.ensures.found (omega arith)) in
-    ends bytes c.loop-place.place (i.walk bytes told long) found)
+pub returns-in-None-clause-answer : goal.returns-in-None-clause-answer
+returns-in-None-clause-answer g c = (
+  c.loop-place.invariant.within,
+  if_some (g.E.Extent.seen c.args.file.now).content _ (λ bytes told long.
+      let i = c.loop-place.invariant in
+      let now : (g.E.Extent.seen c.loop-place.file).content ≡ Some bytes = i.reads.same ∙ told in
+      let found : FindsAt bytes c.args.len c.loop-place.place None = subst (FindsAt bytes c.args.len c.loop-place.place) c.in-None.is
+      (at_some (g.E.Extent.seen c.loop-place.file).content bytes (λ b. c.args.len ≤ length b → FindsAt b c.args.len c.loop-place.place c.in_ok-find_next.field-0) now c.in_ok-find_next.ensures.answer.1 (omega arith)) in
+      counted_ends bytes c.loop-place.place _ _ _ (i.walk bytes told long) found (omega arith) c.find_next.ensures.counted),
+)
+
+pub loop-place-init : goal.loop-place-init
+loop-place-init g c = record {
+  within = c.requires;
+  walk = λ bytes told long. counted_start bytes (g.E.Extent.seen c.args.file.now).calls;
+  reads = reads_none (g.E.Extent.seen c.args.file.now) (g.met.E.Extent.is_file c.args.file.now);
+  lasts = lasts_none (g.E.Extent.seen c.args.file.now);
+  faults = refl;
+}
 
 pub loop-place-preserved : goal.loop-place-preserved
 loop-place-preserved g c = record {
-  within = let o = rw c.in-Some.is at c.in_ok-find_next.ensures.onward in o.1;
+  within = let o = rw c.in-Some.is at c.in_ok-find_next.ensures.answer.0 in o.1;
   walk = λ bytes told long.
       let i = c.loop-place.invariant in
-      let now : g.E.Extent.content c.loop-place.file ≡ Some bytes = i.reads.same ∙ told in
+      let now : (g.E.Extent.seen c.loop-place.file).content ≡ Some bytes = i.reads.same ∙ told in
       let found : FindsAt bytes c.args.len c.loop-place.place (Some c.in-Some.next) = subst (FindsAt bytes c.args.len c.loop-place.place) c.in-Some.is
-      (at_some (g.E.Extent.content c.loop-place.file) bytes (λ b. c.args.len ≤ length b → FindsAt b c.args.len c.loop-place.place c.in_ok-find_next.field-0) now c.in_ok-find_next.ensures.found (omega arith)) in
-      walk_on bytes c.loop-place.place c.in-Some.next (i.walk bytes told long) (subst (λ n. FindsAt bytes n c.loop-place.place (Some c.in-Some.next)) long found);
-  reads = reads_on _ _ _ _ _ _ _ c.loop-place.invariant.reads c.find_next.ensures.reads;
-  room = omega arith;
-  spare = omega arith;
-  quiet = c.find_next.ensures.quiet ∙ c.loop-place.invariant.quiet;
-  never_falls = omega arith;
+      (at_some (g.E.Extent.seen c.loop-place.file).content bytes (λ b. c.args.len ≤ length b → FindsAt b c.args.len c.loop-place.place c.in_ok-find_next.field-0) now c.in_ok-find_next.ensures.answer.1 (omega arith)) in
+      counted_on bytes c.loop-place.place c.in-Some.next _ _ _ (i.walk bytes told long) (subst (λ n. FindsAt bytes n c.loop-place.place (Some c.in-Some.next)) long found) c.find_next.ensures.counted;
+  reads = reads_on _ _ _ c.loop-place.invariant.reads c.find_next.ensures.reads.only;
+  lasts = lasts_on _ _ _ c.loop-place.invariant.lasts c.find_next.ensures.reads.call.lasts;
+  faults = c.in_ok-find_next.ensures.reads.call.counts ∙ c.loop-place.invariant.faults;
 }
 
-pub returns-clause-end : goal.returns-clause-end
-returns-clause-end g c = if_some (g.E.Extent.content c.args.file.now) _ (λ bytes told long.
-    ends_past bytes c.loop-place.place (c.loop-place.invariant.walk bytes told long) (omega arith))
+pub returns-clause-answer : goal.returns-clause-answer
+returns-clause-answer g c = (
+  c.loop-place.invariant.within,
+  if_some (g.E.Extent.seen c.args.file.now).content _ (λ bytes told long.
+      counted_past bytes c.loop-place.place _ _ (c.loop-place.invariant.walk bytes told long) (omega arith)),
+)

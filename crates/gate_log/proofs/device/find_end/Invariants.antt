@@ -1,17 +1,15 @@
 use Rattle.std.proofs.Common.{◌≡◌, ◌-◌, ◌≤◌, ℕ, List, length, Some}
-use Rattle.gate_log.specs.GateLog.{OnlyReads}
-use Rattle.gate_log.proofs.Walk.{WalkTo}
+use Rattle.disk_base.specs.Disk.{Lasts, OnlyReads}
+use Rattle.gate_log.proofs.Follow.{CountedTo}
 use Rattle.gate_log.proofs.device.find_end.Given as goal
 
 abbrev pub invariant-loop-place : goal.invariant-loop-place
 invariant-loop-place g l = record {
   within : l.place ≤ l.len;
-  walk : (bytes : List ℕ) → g.E.Extent.content l.fn.file ≡ Some bytes → l.len ≡ length bytes → WalkTo bytes l.place;
-  reads : OnlyReads g.E.Extent.content g.E.Extent.may_leave g.E.Extent.moment g.E.Extent.left_since l.fn.file l.file;
-  room : g.E.Extent.room l.fn.file ≤ g.E.Extent.room l.file;
-  spare : g.E.Extent.spare l.fn.file ≤ g.E.Extent.spare l.file;
-  quiet : g.E.Extent.file_is_quiet l.file ≡ g.E.Extent.file_is_quiet l.fn.file;
-  never_falls : g.E.Extent.file_faults l.fn.file ≤ g.E.Extent.file_faults l.file;
+  walk : (bytes : List ℕ) → (g.E.Extent.seen l.fn.file).content ≡ Some bytes → l.len ≡ length bytes → CountedTo bytes l.place (g.E.Extent.seen l.fn.file).calls (g.E.Extent.seen l.file).calls;
+  reads : OnlyReads (g.E.Extent.seen l.fn.file) (g.E.Extent.seen l.file);
+  lasts : Lasts (g.E.Extent.seen l.fn.file) (g.E.Extent.seen l.file);
+  faults : (g.E.Extent.seen l.file).faults ≡ (g.E.Extent.seen l.fn.file).faults;
 }
 
 abbrev pub decreases-loop-place : goal.decreases-loop-place

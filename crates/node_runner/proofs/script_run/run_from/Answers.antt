@@ -1,43 +1,37 @@
-use Rattle.std.proofs.Common.{◌≡◌, ◌∙◌, ap, refl, arith, true, false, Ok, Err}
-use Rattle.node_runner.specs.Lines.{to_come}
-use Rattle.node_runner.specs.Progress.{Moment, EndsLine}
-use Rattle.node_runner.specs.declared.line_run.Stop.TheVariants as stops
-use Rattle.node_runner.proofs.RunSteps.{runs_more, ends_over, ends_stopped, ends_last}
+use Rattle.std.proofs.Common.{◌≡◌, ◌∙◌, refl, arith}
+use Rattle.node_runner.specs.Feeding.{feed_of}
+use Rattle.node_runner.specs.Progress.{RunView, run_of}
+use Rattle.node_runner.proofs.RunSteps.{progress_none, progress_more, ends_line, ends_last}
 use Rattle.node_runner.proofs.script_run.run_from.Goals as goal
 
-pub returns-in-Ok-false-clause-end : goal.returns-in-Ok-false-clause-end
-returns-in-Ok-false-clause-end g c =
-    let before : Moment = record { comes = to_come c.loop-lines.feed.buffer (g.S.Source.left c.loop-lines.feed.source.now); is_over = c.loop-lines.feed.buffer.is_over; state = c.loop-lines.store; holds = g.K.Sink.held c.loop-lines.sink } in
-    let after : Moment = record { comes = to_come c.run_line.new.feed.buffer (g.S.Source.left c.run_line.new.feed.source.now); is_over = c.run_line.new.feed.buffer.is_over; state = c.run_line.new.store; holds = g.K.Sink.held c.run_line.new.sink } in
-    let line : EndsLine (Ok false) before after = rw c.in-Ok-false.field-0-test at c.in-Ok-false.ensures.line in
-    ends_over (g.S.Source.left c.args.feed.now.source.now) (g.S.Source.left c.loop-lines.feed.source.now) (g.S.Source.left c.run_line.new.feed.source.now) (g.K.Sink.held c.args.sink.now) c.loop-lines.lines before after
-    c.loop-lines.invariant.runs line c.in-Ok-false.ensures.told c.in-Ok-false.ensures.at_end (omega arith)
+pub loop-lines-init : goal.loop-lines-init
+loop-lines-init g c = record {
+  same = refl;
+  progress = progress_none (g.S.Source.seen c.args.feed.now.source.now) (g.K.Sink.seen c.args.sink.now) c.args.feed.now.buffer c.args.store.now c.requires.0 c.requires.1;
+}
 
-pub returns-in-Err-clause-end : goal.returns-in-Err-clause-end
-returns-in-Err-clause-end g c =
-    let before : Moment = record { comes = to_come c.loop-lines.feed.buffer (g.S.Source.left c.loop-lines.feed.source.now); is_over = c.loop-lines.feed.buffer.is_over; state = c.loop-lines.store; holds = g.K.Sink.held c.loop-lines.sink } in
-    let after : Moment = record { comes = to_come c.run_line.new.feed.buffer (g.S.Source.left c.run_line.new.feed.source.now); is_over = c.run_line.new.feed.buffer.is_over; state = c.run_line.new.store; holds = g.K.Sink.held c.run_line.new.sink } in
-    ends_stopped c.in-Err.stop (g.S.Source.left c.args.feed.now.source.now) (g.S.Source.left c.loop-lines.feed.source.now) (g.S.Source.left c.run_line.new.feed.source.now) (g.K.Sink.held c.args.sink.now) c.loop-lines.lines before after c.run_line.new.feed.buffer
-    c.loop-lines.invariant.runs c.in-Err.ensures.line refl refl (λ (is_read : c.in-Err.stop ≡ stops.Read). c.in-Err.ensures.between (ap Err is_read)) (omega arith)
+pub returns-in-Err-clause-ends : goal.returns-in-Err-clause-ends
+returns-in-Err-clause-ends g c =
+    let old : RunView = run_of (feed_of c.loop-lines.feed.buffer (g.S.Source.seen c.loop-lines.feed.source.now)) c.loop-lines.store (g.K.Sink.seen c.loop-lines.sink) in
+    let new : RunView = run_of (feed_of c.run_line.new.feed.buffer (g.S.Source.seen c.run_line.new.feed.source.now)) c.run_line.new.store (g.K.Sink.seen c.run_line.new.sink) in
+    ends_line c.in-Err.ending (g.S.Source.seen c.args.feed.now.source.now) (g.K.Sink.seen c.args.sink.now) c.loop-lines.lines old new
+    c.loop-lines.invariant.progress c.in-Err.ensures.line c.in-Err.ensures.feed c.in-Err.ensures.counts (omega arith)
 
 pub loop-lines-preserved : goal.loop-lines-preserved
 loop-lines-preserved g c =
-    let before : Moment = record { comes = to_come c.loop-lines.feed.buffer (g.S.Source.left c.loop-lines.feed.source.now); is_over = c.loop-lines.feed.buffer.is_over; state = c.loop-lines.store; holds = g.K.Sink.held c.loop-lines.sink } in
-    let after : Moment = record { comes = to_come c.run_line.new.feed.buffer (g.S.Source.left c.run_line.new.feed.source.now); is_over = c.run_line.new.feed.buffer.is_over; state = c.run_line.new.store; holds = g.K.Sink.held c.run_line.new.sink } in
-    let line : EndsLine (Ok true) before after = rw c.in-Ok-true.field-0-test at c.in-Ok-true.ensures.line in
+    let old : RunView = run_of (feed_of c.loop-lines.feed.buffer (g.S.Source.seen c.loop-lines.feed.source.now)) c.loop-lines.store (g.K.Sink.seen c.loop-lines.sink) in
+    let new : RunView = run_of (feed_of c.run_line.new.feed.buffer (g.S.Source.seen c.run_line.new.feed.source.now)) c.run_line.new.store (g.K.Sink.seen c.run_line.new.sink) in
     record {
-      same = c.in-Ok-true.ensures.same_source ∙ c.loop-lines.invariant.same;
-      runs = runs_more (g.S.Source.left c.args.feed.now.source.now) (g.S.Source.left c.loop-lines.feed.source.now) (g.S.Source.left c.run_line.new.feed.source.now) (g.K.Sink.held c.args.sink.now) c.loop-lines.lines before after
-          c.loop-lines.invariant.runs line c.in-Ok-true.ensures.told c.in-Ok-true.ensures.at_end;
-      told = λ h. c.in-Ok-true.ensures.told (c.loop-lines.invariant.told h);
-      source_count = omega (arith, c.in-Ok-true.ensures.source_count);
-      sink_count = omega (arith, c.in-Ok-true.ensures.sink_count);
+      same = c.in-Ok.ensures.same_source ∙ c.loop-lines.invariant.same;
+      progress = progress_more (g.S.Source.seen c.args.feed.now.source.now) (g.K.Sink.seen c.args.sink.now) c.loop-lines.lines old new
+          c.loop-lines.invariant.progress c.in-Ok.ensures.line c.in-Ok.ensures.feed c.in-Ok.ensures.counts;
     }
 
-pub returns-clause-end : goal.returns-clause-end
-returns-clause-end g c =
-    let before : Moment = record { comes = to_come c.loop-lines.feed.buffer (g.S.Source.left c.loop-lines.feed.source.now); is_over = c.loop-lines.feed.buffer.is_over; state = c.loop-lines.store; holds = g.K.Sink.held c.loop-lines.sink } in
+pub returns-clause-ends : goal.returns-clause-ends
+returns-clause-ends g c =
+    let now : RunView = run_of (feed_of c.loop-lines.feed.buffer (g.S.Source.seen c.loop-lines.feed.source.now)) c.loop-lines.store (g.K.Sink.seen c.loop-lines.sink) in
+    let after = c.read_last-ending.new.feed in
     let full : c.loop-lines.lines ≡ 1000000 = omega arith in
-    let ends = ends_last c.read_last-stop.result (g.S.Source.left c.args.feed.now.source.now) (g.S.Source.left c.loop-lines.feed.source.now) (g.S.Source.left c.read_last-stop.new.feed.source.now) (g.K.Sink.held c.args.sink.now) c.loop-lines.lines before c.read_last-stop.new.feed.buffer
-    c.loop-lines.invariant.runs c.read_last-stop.ensures.line c.read_last-stop.ensures.told c.read_last-stop.ensures.at_end c.read_last-stop.ensures.between full in
+    let ends = ends_last c.read_last-ending.result (g.S.Source.seen c.args.feed.now.source.now) (g.K.Sink.seen c.args.sink.now) c.loop-lines.lines now
+    (feed_of after.buffer (g.S.Source.seen after.source.now)) c.loop-lines.invariant.progress c.read_last-ending.ensures.stops c.read_last-ending.ensures.feed full in
     rw full at ends

@@ -1,6 +1,6 @@
 use Rattle.std.specs.Str.{bytes_eq}
 use Rattle.std.proofs.Common.{sym, ◌∙◌, ap, Some, None, option_map}
-use Rattle.node_runner.specs.KeptInside.{object_of}
+use Rattle.node_runner.specs.VolumeInside.{object_of}
 use Rattle.node_runner.proofs.Objects.{found-seen, found_whole}
 use Rattle.node_runner.proofs.volume.Volume.get.Goals as goal
 

@@ -1,7 +1,7 @@
 use Rattle.std.proofs.Common.{sym, ◌∙◌, ap, is_some}
 use Rattle.std.specs.Map.{lookup}
 use Rattle.std.specs.Str.{bytes_eq}
-use Rattle.node_runner.specs.KeptInside.{object_of}
+use Rattle.node_runner.specs.VolumeInside.{object_of}
 use Rattle.node_runner.proofs.Objects.{has-seen}
 use Rattle.node_runner.proofs.volume.Volume.has.Goals as goal
 

@@ -3,9 +3,9 @@ use Rattle.std.specs.Prelude.{map}
 use Rattle.std.specs.Map.{lookup}
 use Rattle.std.specs.Str.{bytes_eq}
 use Rattle.indexmap.proofs.CallerLemmas.{insert_entry-new}
-use Rattle.node_runner.specs.declared.volume.Kept.{Kept}
+use Rattle.node_runner.specs.declared.volume.StoredObject.{StoredObject}
 use Rattle.node_runner.specs.Session.{Object}
-use Rattle.node_runner.specs.KeptInside.{object_of}
+use Rattle.node_runner.specs.VolumeInside.{object_of}
 use Rattle.node_runner.proofs.Objects.{none-seen, last-seen, last_whole}
 use Rattle.node_runner.proofs.volume.Volume.put.Goals as goal
 
@@ -13,7 +13,7 @@ pub returns-clause-entered : goal.returns-clause-entered
 returns-clause-entered c =
     let mode = c.self.inside.mode in
     let entries = c.self.inside.kept.entries in
-    let kept : Kept = record { bid = c.len.result + 1; size = length c.args.bytes.now; shards = c.in_ok-shards.shards } in
+    let kept : StoredObject = record { bid = c.len.result + 1; size = length c.args.bytes.now; shards = c.in_ok-shards.shards } in
     let key_is : c.in_ok-key.key.items ≡ c.args.name.now = search rules in
     let is_seen : map (λ e. (e.0.items, object_of mode e.1)) entries ≡ c.args.self.now.objects = ap (λ v. v.objects) c.self.view_is in
     let new_key : lookup (λ k. bytes_eq c.in_ok-key.key.items k.items) entries ≡ None =
@@ -28,7 +28,7 @@ pub invariant_of-self-2 : goal.invariant_of-self-2
 invariant_of-self-2 c =
     let mode = c.self.inside.mode in
     let entries = c.self.inside.kept.entries in
-    let kept : Kept = record { bid = c.len.result + 1; size = length c.args.bytes.now; shards = c.in_ok-shards.shards } in
+    let kept : StoredObject = record { bid = c.len.result + 1; size = length c.args.bytes.now; shards = c.in_ok-shards.shards } in
     let key_is : c.in_ok-key.key.items ≡ c.args.name.now = search rules in
     let is_seen : map (λ e. (e.0.items, object_of mode e.1)) entries ≡ c.args.self.now.objects = ap (λ v. v.objects) c.self.view_is in
     let new_key : lookup (λ k. bytes_eq c.in_ok-key.key.items k.items) entries ≡ None =
