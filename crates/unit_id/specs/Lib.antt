@@ -1,1 +1,6 @@
 pub mod UnitName
+pub mod Lists
+pub mod Place
+pub mod Shown
+pub mod Request
+pub mod Messages

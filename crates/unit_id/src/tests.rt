@@ -1,6 +1,8 @@
 //! Worked values of names and lists.
 
-use crate::{Bids, Bytes, Home, Homes, UnitFault, UnitName};
+use crate::{
+    Bids, Bytes, Home, Homes, Kind, Move, Moves, Target, Targets, Task, UnitFault, UnitName,
+};
 use std::test::Fail;
 
 #[test]
@@ -72,6 +74,42 @@ fn lists(rt: HostRuntime) -> Result<(), Fail> {
                 disk: index as u32 + 1,
                 broken: index == 26
             }
+        );
+    }
+    Ok(())
+}
+
+#[test]
+fn lists_of_a_task(rt: HostRuntime) -> Result<(), Fail> {
+    let moved = [Target { index: 3, disk: 7 }, Target { index: 4, disk: 0 }];
+    let targets = Targets::from_vec(moved.to_vec(rt.alloc())?);
+    assert_eq!(rt; (targets.len(), targets.as_slice()), (2, moved.as_slice()));
+    let task = Task {
+        id: 9,
+        kind: Kind::Repair,
+        vid: 2,
+        targets,
+    };
+    assert_eq!(rt; (task.id, task.kind, task.vid), (9, Kind::Repair, 2));
+    assert_eq!(rt; task.targets.into_vec().as_slice(), moved.as_slice());
+    let mut moves = Moves::empty();
+    assert_eq!(rt; moves.len(), 0);
+    for index in 0..9u8 {
+        let unit = UnitName::new(5, index, 2)?;
+        assert!(rt; moves.len() < 9);
+        moves.push(Move {
+            index,
+            unit,
+            disk: u32::from(index) + 1,
+            dest_broken: index == 8,
+        });
+    }
+    assert_eq!(rt; moves.len(), 9);
+    for (place, item) in moves.as_slice().iter().enumerate() {
+        let unit = UnitName::new(5, place as u8, 2)?;
+        assert_eq!(rt;
+            (item.index, item.unit, item.disk, item.dest_broken),
+            (place as u8, unit, place as u32 + 1, place == 8)
         );
     }
     Ok(())
