@@ -4,3 +4,9 @@ pub mod Products
 pub mod Remainder
 pub mod Inverses
 pub mod Scaled
+pub mod HalfBytes
+pub mod HalfTables
+pub mod Rows
+pub mod Sums
+pub mod Filled
+pub mod Pieces

@@ -1,1 +1,4 @@
 pub mod Field
+pub mod Halves
+pub mod Sums
+pub mod Rows

@@ -1,4 +1,7 @@
+ghost use Rattle.std.specs.Prelude.{◌≡◌, ◌≤◌, All, IfOk, length};
+
 use super::*;
+use std::alloc::{AllocError, Global};
 use std::test::Fail;
 
 /// The product by shifts alone: the whole product of 15 coefficients first, and then its remainder.
@@ -53,19 +56,102 @@ fn inverses_and_powers_are_the_field_s(rt: HostRuntime) {
 }
 
 #[test]
-fn a_row_is_scaled_and_added(rt: HostRuntime) {
-    for length in [0usize, 1, 33] {
-        let mut out = [0u8; 33];
-        let src = [128u8; 33];
-        scale_add(&mut out[..length], 2, &src[..length]);
-        for (place, byte) in out.iter().enumerate() {
-            let want = if place < length { 29 } else { 0 };
-            assert_eq!(rt; *byte, want, "at {place} of {length}");
-        }
-        scale_add(&mut out[..length], 1, &src[..length]);
-        for (place, byte) in out.iter().enumerate() {
-            let want = if place < length { 157 } else { 0 };
-            assert_eq!(rt; *byte, want, "at {place} of {length}");
+fn rows_of_every_length_are_scaled_and_added(rt: HostRuntime) {
+    let mut src = [0u8; 67];
+    for (place, byte) in src.iter_mut().enumerate() {
+        *byte = (place * 37 % 256) as u8;
+    }
+    for length in 0..=65usize {
+        for (factor, from) in [(0u8, 0usize), (1, 1), (2, 0), (143, 2)] {
+            let mut out = [85u8; 67];
+            scale_add(&mut out[from..from + length], factor, &src[..length]);
+            for (place, byte) in out.iter().enumerate() {
+                let inside = from <= place && place < from + length;
+                let want = if inside {
+                    85 ^ by_shifts(factor, src[place - from])
+                } else {
+                    85
+                };
+                assert_eq!(rt; u16::from(*byte), want, "{factor}: {place} of {length}");
+            }
         }
     }
+}
+
+/// The rows of these factors.
+fn rows_of(alloc: Global, factors: &[[u8; 3]]) -> Result<Vec<FactorRow>, AllocError>
+    ensures { IfOk result (λ rows. All (λ row. length row ≡ 3) rows.items) }
+{
+    let mut rows = Vec::new(alloc);
+    for k in 0..factors.len() {
+        rows.push(FactorRow::make(alloc, &factors[k])?)?;
+    }
+    Ok(rows)
+}
+
+/// Whether an output has the sums of a row, at its ends and in its middle.
+fn has_sums(output: &[u8], row: &[u8; 3], a: &[u8], b: &[u8], c: &[u8]) -> bool {
+    for place in [0, output.len() / 2, output.len().max(1) - 1] {
+        if place < output.len() && place < a.len() && place < b.len() && place < c.len() {
+            let sum = by_shifts(row[0], a[place])
+                ^ by_shifts(row[1], b[place])
+                ^ by_shifts(row[2], c[place]);
+            if u16::from(output[place]) != sum {
+                return false;
+            }
+        }
+    }
+    true
+}
+
+/// Whether the first rows of the factors give their sums at so many places.
+fn are_sums(
+    alloc: Global,
+    factors: &[[u8; 3]],
+    bytes: &[u8; 5000],
+    size: usize,
+) -> Result<bool, AllocError>
+    requires { size ≤ 4997 }
+{
+    let rows = rows_of(alloc, factors)?;
+    let sources = [&bytes[..4997], &bytes[1..4998], &bytes[3..]];
+    let outputs = combine(alloc, &rows, &sources, size)?;
+    if outputs.len() != factors.len() {
+        return Ok(false);
+    }
+    for k in 0..outputs.len() {
+        if outputs[k].len() != size
+            || !has_sums(&outputs[k], &factors[k], sources[0], sources[1], sources[2])
+        {
+            return Ok(false);
+        }
+    }
+    Ok(true)
+}
+
+#[test]
+fn sums_of_one_to_eight_rows(rt: HostRuntime) -> Result<(), Fail> {
+    let mut bytes = [0u8; 5000];
+    for (place, byte) in bytes.iter_mut().enumerate() {
+        *byte = (place * 101 % 251) as u8;
+    }
+    let factors = [
+        [1u8, 2, 3],
+        [0, 0, 7],
+        [9, 255, 128],
+        [4, 4, 4],
+        [6, 0, 1],
+        [2, 2, 9],
+        [77, 3, 5],
+        [0, 1, 0],
+    ];
+    for count in 0..=8usize {
+        for size in [0usize, 1, 31, 32, 33, 100, 4096, 4997] {
+            assert!(rt;
+                are_sums(rt.alloc(), &factors[..count], &bytes, size)?,
+                "{count} rows of {size}"
+            );
+        }
+    }
+    Ok(())
 }
