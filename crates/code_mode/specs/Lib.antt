@@ -1,3 +1,5 @@
 pub mod Mode
 pub mod Payload
 pub mod Stripe
+pub mod VolumeShape
+pub mod PayloadShard

@@ -4,8 +4,8 @@
 //! shards of one size, and these joined again are the blob. A payload is the bytes that were written out
 //! or those of a generator, all at once or one by one.
 //!
-//! Public calls: those of `Mode` and `Payload`, `cut`, `hold` and `join`; the laws `mode_numbers`, `cut_shards_join`
-//! and `any_shards_give_the_blob`.
+//! Public calls: those of `Mode` and `Payload`, `cut`, `hold` and `join`; the laws `mode_numbers`, `mode_shapes`,
+//! `cut_shards_join` and `any_shards_give_the_blob`.
 #![tactic(auto)]
 
 mod mode;
@@ -14,6 +14,6 @@ mod stripe;
 #[cfg(test)]
 mod tests;
 
-pub use mode::{Mode, mode_numbers};
+pub use mode::{Mode, mode_numbers, mode_shapes};
 pub use payload::Payload;
 pub use stripe::{BLOB_LIMIT, any_shards_give_the_blob, cut, cut_shards_join, hold, join};

@@ -1,7 +1,8 @@
 //! The eight code modes.
 
-ghost use Rattle.std.specs.Prelude.{◌≡◌, ◌≤◌, IfSome, Some};
+ghost use Rattle.std.specs.Prelude.{ℕ, ◌≡◌, ◌≤◌, IfSome, Some};
 ghost use Rattle.code_mode.specs.Mode.{mode_name, data_count, parity_count, total_count, put_quorum, sight, shard_size, HasSoundNumbers};
+ghost use Rattle.code_mode.specs.VolumeShape.{IsVolumeShape, volume_shape};
 ghost use Rattle.code_mode.specs.declared.mode.Mode.{Mode};
 
 /// How a blob is cut into data and parity shards. `EcNpM` has N data and M parity shards.
@@ -130,4 +131,9 @@ impl Mode {
 /// What the numbers of all modes have in common.
 pub fn mode_numbers()
     ensures { (mode : Mode) → HasSoundNumbers mode }
+{}
+
+/// The numbers of a volume of any mode fit together, on any number of disks.
+pub fn mode_shapes()
+    ensures { (mode : Mode) (disks : ℕ) → IsVolumeShape (volume_shape mode disks) }
 {}

@@ -1,0 +1,9 @@
+//! A whole volume: its state, its moves, and what holds after every list of moves.
+//!
+//! Today the crate has the definitions (`specs/`) and the laws; the world that steps by them isn't written yet.
+//! `specs/State` and `specs/Move` say what is kept and how it changes, whatever is lost, repeated or late; `specs/Run`
+//! says which moves an entry of a history is. `specs/Invariant` has what every move keeps, a file each part.
+#![tactic(auto)]
+
+pub mod examples;
+pub mod laws;
