@@ -1,0 +1,14 @@
+use Rattle.std.proofs.Common.{sym, ap, ◌∙◌, ◌-◌, Some, None}
+use Rattle.cluster_admin.specs.Picking.{last_in}
+use Rattle.cluster_admin.proofs.Slots.{put_back, empty_again, volume_there}
+use Rattle.cluster_admin.proofs.picking.set_last.Goals as goal
+
+pub returns-in-Some : goal.returns-in-Some
+returns-in-Some c =
+    put_back c.args.volumes.now c.take.new.self c.set.new.self (c.args.vid - 1) _ c.take.ensures.gone c.set.ensures
+    ∙ sym (ap (last_in c.args.volumes.now c.args.vid c.args.last) (volume_there c.args.volumes.now c.args.vid (Some c.in-Some.volume) c.if-vid-eq0.false c.in-Some.ensures.taken))
+
+pub returns-in-None : goal.returns-in-None
+returns-in-None c =
+    empty_again c.args.volumes.now c.take.new.self (c.args.vid - 1) c.in-None.ensures.taken c.take.ensures.gone
+    ∙ sym (ap (last_in c.args.volumes.now c.args.vid c.args.last) (volume_there c.args.volumes.now c.args.vid None c.if-vid-eq0.false c.in-None.ensures.taken))

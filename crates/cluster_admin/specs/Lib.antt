@@ -1,0 +1,14 @@
+pub mod Disks
+pub mod Placing
+pub mod Volumes
+pub mod Plans
+pub mod Choosing
+pub mod Cluster
+pub mod Inside
+pub mod Refusals
+pub mod Names
+pub mod Drawing
+pub mod Picking
+pub mod Settling
+pub mod Planning
+pub mod Location
