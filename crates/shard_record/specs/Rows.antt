@@ -3,6 +3,7 @@ use Rattle.std.specs.Prelude.{ℕ, ◌≡◌, Bool, true, false, List, [], ◌�
 use Rattle.std.specs.Ordering.{nat_cmp}
 use Rattle.std.specs.FinMap.{FinMap}
 use Rattle.std.specs.FinMap as map
+use Rattle.unit_id.specs.UnitName.{Name}
 use Rattle.shard_record.specs.declared.record.ShardRecord.{ShardRecord}
 use Rattle.shard_record.specs.declared.record.ShardRecord.TheVariants.{Shard, Mark, Free, Fence, Release}
 
@@ -91,3 +92,22 @@ abbrev pub AreDeletesKept : Type 0
 AreDeletesKept =
     (items more : List ShardRecord) (bid : ℕ) → IsDeleted (row_at items bid) →
     (rows_after (items ++ more)).is_released ≡ false → IsDeleted (row_at (items ++ more) bid)
+
+-- a gone row stays gone while the unit isn't released
+abbrev pub AreGoneRowsKept : Type 0
+AreGoneRowsKept =
+    (items more : List ShardRecord) (bid : ℕ) → row_at items bid ≡ Some Gone →
+    (rows_after (items ++ more)).is_released ≡ false → row_at (items ++ more) bid ≡ Some Gone
+
+-- the first fence stays while the unit isn't released
+abbrev pub IsFirstFenceKept : Type 0
+IsFirstFenceKept =
+    (items more : List ShardRecord) (lock : ℕ) → (rows_after items).fence ≡ Some lock →
+    (rows_after (items ++ more)).is_released ≡ false → (rows_after (items ++ more)).fence ≡ Some lock
+
+-- a release is the end: whatever records follow, the unit has no rows and no fence and stays released
+abbrev pub IsReleaseTheEnd : Type 0
+IsReleaseTheEnd =
+    (items more : List ShardRecord) (unit : Name) →
+    ((rows_after items).is_released ≡ true → rows_after (items ++ more) ≡ rows_after items)
+    × (rows_after (items ++ Release unit ∷ more) ≡ released)

@@ -6,8 +6,8 @@
 //! leaves is a definition alone, in `specs/Rows.antt`, for the layer that keeps rows.
 //!
 //! Public calls: `crc32`, `write`, `read`, `ShardRecord::unit`, and the laws
-//! `spelling_is_one_to_one`, `no_spelling_begins_another`, `spelled_or_refused` and
-//! `deletes_are_kept`.
+//! `spelling_is_one_to_one`, `no_spelling_begins_another`, `spelled_or_refused`,
+//! `deletes_are_kept`, `gone_rows_stay_gone`, `first_fence_stays` and `nothing_follows_a_release`.
 #![tactic(auto)]
 
 mod crc;
@@ -21,7 +21,8 @@ mod writing;
 
 pub use crc::crc32;
 pub use laws::{
-    deletes_are_kept, no_spelling_begins_another, spelled_or_refused, spelling_is_one_to_one,
+    deletes_are_kept, first_fence_stays, gone_rows_stay_gone, no_spelling_begins_another,
+    nothing_follows_a_release, spelled_or_refused, spelling_is_one_to_one,
 };
 pub use reading::read;
 pub use record::{RecordFault, ShardRecord};

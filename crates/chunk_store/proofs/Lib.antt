@@ -1,0 +1,11 @@
+pub mod AddRecord
+pub mod Added
+pub mod Entries
+pub mod Finding
+pub mod Listings
+pub mod Opened
+pub mod ReadAll
+pub mod ReadRecords
+pub mod RecordLists
+pub mod Reflecting
+pub mod Shown
