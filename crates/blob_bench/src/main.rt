@@ -2,54 +2,63 @@
 //!
 //! `blob_bench MEASURE SIZE ROUNDS` runs a measure that many rounds over that many bytes, and prints
 //! the sum of its results and the bytes a second. Without words each measure runs over a set size and
-//! only the sums are printed, which are the same on every machine. Measures: `crc`.
+//! only the sums are printed, which are the same on every machine. Measures: `crc`, `copy`, `chunk`,
+//! `chunk-start`, and `turn`, for which SIZE is the turns of each thread and ROUNDS the number of threads.
 #![tactic(auto)]
 
 mod data;
 mod measure;
+mod turns;
 
 use anyhow::{Context, Result, bail};
 use measure::Measure;
+use std::alloc::Global;
 use std::env;
-
-/// The bytes and rounds of a run without words.
-const SET_SIZE: usize = 65_536;
-
-const SET_ROUNDS: u32 = 8;
+use std::rt::Clock;
+use std::sync::Wait;
+use std::thread::Threads;
 
 fn main(rt: HostRuntime) -> Result<()> {
     let mut words = env::args(&rt)?.skip(1);
     let Some(name) = words.next() else {
-        return print_sums(&rt);
+        return print_sums(&rt, rt.alloc());
     };
     let (Some(size), Some(rounds), None) = (words.next(), words.next(), words.next()) else {
         bail!("usage: blob_bench [MEASURE SIZE ROUNDS]");
     };
     let measure = Measure::read_name(name.as_str()).context("no such measure")?;
-    let size = size.as_str().parse().context("SIZE is a number of bytes")?;
+    let size = size.as_str().parse().context("SIZE is a number")?;
     let rounds = rounds.as_str().parse().context("ROUNDS is a number")?;
-    print_speed(&rt, measure, size, rounds)
+    print_speed(&rt, rt.alloc(), measure, size, rounds)
 }
 
 /// Prints the sum of each measure over the set size.
-fn print_sums(rt: &HostRuntime) -> Result<()> {
+fn print_sums<R: Threads + Wait + Sync + Clock + Print>(rt: &R, alloc: Global) -> Result<()> {
     for measure in Measure::ALL {
-        let outcome = measure.run(rt, SET_SIZE, SET_ROUNDS)?;
+        let (size, rounds) = measure.set_run();
+        let outcome = measure.run(rt, alloc, size, rounds)?;
         println!(rt; "{} {:016x}", measure.name(), outcome.sum)?;
     }
     Ok(())
 }
 
-/// Prints the sum of a measure and how many bytes it went over in a second.
-fn print_speed(rt: &HostRuntime, measure: Measure, size: usize, rounds: u32) -> Result<()> {
-    let outcome = measure.run(rt, size, rounds)?;
-    let bytes = size as u128 * u128::from(rounds);
+/// Prints the sum of a measure and how much it went over in a second.
+fn print_speed<R: Threads + Wait + Sync + Clock + Print>(
+    rt: &R,
+    alloc: Global,
+    measure: Measure,
+    size: usize,
+    rounds: u32,
+) -> Result<()> {
+    let outcome = measure.run(rt, alloc, size, rounds)?;
+    let gone_over = size as u128 * u128::from(rounds);
     let nanos = outcome.taken.as_nanos().max(1);
-    let speed = bytes * 1_000_000_000 / nanos;
+    let speed = gone_over * 1_000_000_000 / nanos;
     println!(rt;
-        "{} {:016x} {speed} bytes a second",
+        "{} {:016x} {speed} {} a second",
         measure.name(),
-        outcome.sum
+        outcome.sum,
+        measure.unit()
     )?;
     Ok(())
 }
