@@ -83,39 +83,68 @@ fn a_body_is_read_over_a_lying_file(rt: HostRuntime) -> Result<(), Fail> {
     Ok(())
 }
 
+/// Whether both calls of a log that isn't started are refused.
+fn refuses_all(alloc: Global, log: &mut GateLog<MemFile>) -> bool {
+    log.end().is_none()
+        && matches!(log.append(alloc, b"ab"), Err(LogFault::Shut))
+        && matches!(log.read(alloc, 8), Err(LogFault::Shut))
+}
+
+/// Whether a body of no bytes is refused, and changes nothing.
+fn refuses_nothing(alloc: Global, log: &mut GateLog<MemFile>) -> bool {
+    matches!(log.append(alloc, b""), Err(LogFault::BadLength { len: 0 })) && log.end() == Some(8)
+}
+
+/// The place of a body that is appended, and the end behind it.
+fn append(alloc: Global, log: &mut GateLog<MemFile>, body: &[u8; 2]) -> Result<(u64, u64), Fail> {
+    let place = log.append(alloc, body)?;
+    Ok((place, log.end().unwrap_or(0)))
+}
+
+/// Whether this body stands at a place, with the next place behind it.
+fn has(alloc: Global, log: &mut GateLog<MemFile>, place: u64, want: &[u8; 2], next: u64) -> bool {
+    match log.read(alloc, place) {
+        Ok((body, told)) => body.as_slice() == want.as_slice() && told == next,
+        Err(_) => false,
+    }
+}
+
+/// Whether no body is found at a place.
+fn refuses(alloc: Global, log: &mut GateLog<MemFile>, place: u64) -> bool {
+    match log.read(alloc, place) {
+        Err(LogFault::BadChain { place: told }) => told == place,
+        _ => false,
+    }
+}
+
+/// A log over an empty file, where it refuses all before its start.
+fn started(alloc: Global) -> Result<GateLog<MemFile>, Fail> {
+    let mut log = GateLog::over(MemFile::new(alloc, Vec::new(alloc)));
+    if log.first() != 8 || !refuses_all(alloc, &mut log) {
+        return Err(Fail::from(LogFault::Shut));
+    }
+    log.start()?;
+    Ok(log)
+}
+
+/// Whether the file of a log has these bytes.
+fn is_file(alloc: Global, log: GateLog<MemFile>, want: &[u8]) -> Result<bool, Fail> {
+    let mut file = log.into_file();
+    Ok(bytes_of(alloc, &mut file)?.as_slice() == want)
+}
+
 #[test]
 fn a_log_begins_and_grows(rt: HostRuntime) -> Result<(), Fail> {
     let alloc = rt.alloc();
-    let mut log = GateLog::over(MemFile::new(alloc, Vec::new(alloc)));
-    assert_eq!(rt; (log.first(), log.end()), (8, None));
-    assert!(rt; matches!(log.append(alloc, b"ab"), Err(LogFault::Shut)));
-    assert!(rt; matches!(log.read(alloc, 8), Err(LogFault::Shut)));
-    log.start()?;
-    assert!(rt; matches!(log.append(alloc, b""), Err(LogFault::BadLength { len: 0 })));
-    assert_eq!(rt; log.end(), Some(8));
-    assert_eq!(rt; log.append(alloc, b"ab")?, 8);
-    assert_eq!(rt; log.end(), Some(15));
-    let (body, next) = log.read(alloc, 8)?;
-    assert_eq!(rt; (body.as_slice(), next), (b"ab".as_slice(), 15));
+    let mut log = started(alloc)?;
+    assert!(rt; refuses_nothing(alloc, &mut log));
+    assert_eq!(rt; append(alloc, &mut log, b"ab")?, (8, 15));
+    assert!(rt; has(alloc, &mut log, 8, b"ab", 15));
     for place in [0, 9, 13, 15, 99] {
-        let refused = match log.read(alloc, place) {
-            Err(LogFault::BadChain { place: told }) => told == place,
-            _ => false,
-        };
-        assert!(rt; refused, "at {place}");
+        assert!(rt; refuses(alloc, &mut log, place), "at {place}");
     }
-    let mut file = log.into_file();
-    assert_eq!(rt;
-        bytes_of(alloc, &mut file)?.as_slice(),
-        b"BLOBLOG1\x01\x00\x00\x00\x02ab\x00".as_slice()
-    );
-    let mut empty = GateLog::over(MemFile::new(alloc, Vec::new(alloc)));
-    empty.start()?;
-    let mut file = empty.into_file();
-    assert_eq!(rt;
-        bytes_of(alloc, &mut file)?.as_slice(),
-        b"BLOBLOG1\x00".as_slice()
-    );
+    assert!(rt; is_file(alloc, log, b"BLOBLOG1\x01\x00\x00\x00\x02ab\x00")?);
+    assert!(rt; is_file(alloc, started(alloc)?, b"BLOBLOG1\x00")?);
     Ok(())
 }
 
@@ -138,6 +167,24 @@ fn answered(alloc: Global, call: u64) -> Result<(bool, bool, bool), Fail> {
     Ok((started, first, second))
 }
 
+/// What a file says whose first append failed at this call, after a crash that leaves this byte where it can.
+fn after_crash(alloc: Global, call: u64, choice: u8) -> Result<u64, Fail> {
+    says(
+        alloc,
+        failed_append(alloc, call)?.into_file().crash(&[choice; 7]),
+    )
+}
+
+/// What is found after an append that failed at this call, once the log is started again.
+fn after_start(alloc: Global, call: u64) -> Result<u64, Fail> {
+    let mut log = failed_append(alloc, call)?;
+    if !refuses_all(alloc, &mut log) {
+        return Err(Fail::from(LogFault::Shut));
+    }
+    log.start()?;
+    count_bodies(alloc, &mut log)
+}
+
 #[test]
 fn a_failed_call_and_a_crash_leave_before_or_after(rt: HostRuntime) -> Result<(), Fail> {
     let alloc = rt.alloc();
@@ -151,14 +198,13 @@ fn a_failed_call_and_a_crash_leave_before_or_after(rt: HostRuntime) -> Result<()
     ];
     for (call, as_it_is, wants) in rows {
         for (choice, want) in [0u8, 1, 7].into_iter().zip(wants) {
-            let crashed = failed_append(alloc, call)?.into_file().crash(&[choice; 7]);
-            assert_eq!(rt; says(alloc, crashed)?, want, "call {call}, gate {choice}");
+            assert_eq!(rt;
+                after_crash(alloc, call, choice)?,
+                want,
+                "call {call}, gate {choice}"
+            );
         }
-        let mut log = failed_append(alloc, call)?;
-        assert_eq!(rt; log.end(), None);
-        assert!(rt; matches!(log.append(alloc, b"ab"), Err(LogFault::Shut)));
-        log.start()?;
-        assert_eq!(rt; count_bodies(alloc, &mut log)?, as_it_is, "call {call}");
+        assert_eq!(rt; after_start(alloc, call)?, as_it_is, "call {call}");
     }
     // The ninth call is the first of the second append.
     for call in 1..=9 {
@@ -171,6 +217,18 @@ fn a_failed_call_and_a_crash_leave_before_or_after(rt: HostRuntime) -> Result<()
     Ok(())
 }
 
+/// What the worked file says, cut to so many bytes.
+fn cut_to(alloc: Global, len: usize) -> Result<u64, Fail> {
+    says(alloc, file_with(alloc, &TWO[..len.min(22)], &[])?)
+}
+
+/// What the worked file says with one bit changed.
+fn changed_at(alloc: Global, place: usize, bit: u8) -> Result<u64, Fail> {
+    let mut bytes = TWO;
+    bytes[place.min(21)] ^= 1 << bit.min(7);
+    says(alloc, file_with(alloc, &bytes, &[])?)
+}
+
 #[test]
 fn a_file_that_was_cut_or_changed_is_told(rt: HostRuntime) -> Result<(), Fail> {
     let alloc = rt.alloc();
@@ -179,8 +237,7 @@ fn a_file_that_was_cut_or_changed_is_told(rt: HostRuntime) -> Result<(), Fail> {
         0, 0, 0, 0, 0, 0, 0, 0, 0, 0, 208, 208, 208, 208, 208, 1, 215, 215, 215, 215, 215, 2, 2,
     ];
     for (len, want) in cuts.into_iter().enumerate() {
-        let file = file_with(alloc, &TWO[..len.min(22)], &[])?;
-        assert_eq!(rt; says(alloc, file)?, want, "cut to {len}");
+        assert_eq!(rt; cut_to(alloc, len)?, want, "cut to {len}");
     }
     // For each place, what the file says where a bit is changed there: the lowest three, and the others.
     let rows: [(usize, usize, [u64; 4]); 9] = [
@@ -195,13 +252,11 @@ fn a_file_that_was_cut_or_changed_is_told(rt: HostRuntime) -> Result<(), Fail> {
         (21, 22, [221, 2, 2, 2]),
     ];
     for (from, to, wants) in rows {
-        for place in from..to.min(22) {
+        for place in from..to {
             for bit in 0..8u8 {
-                let mut bytes = TWO;
-                bytes[place] ^= 1 << bit;
                 let want = wants[usize::from(bit.min(3))];
                 assert_eq!(rt;
-                    says(alloc, file_with(alloc, &bytes, &[])?)?,
+                    changed_at(alloc, place, bit)?,
                     want,
                     "bit {bit} at {place}"
                 );
