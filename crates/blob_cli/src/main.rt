@@ -7,7 +7,7 @@ mod streams;
 #[cfg(test)]
 mod tests;
 
-use node_runner::{Outcome, run};
+use node_runner::run;
 use report::Report;
 use std::process::ExitCode;
 use std::{env, io};
@@ -23,27 +23,25 @@ fn words_of(rt: &HostRuntime) -> io::Result<Vec<String>> {
 }
 
 /// How a run ends whose words could not be had: out of memory, or since they are no text.
-fn without_words(error: &io::Error) -> Outcome {
+fn without_words(error: &io::Error) -> Report {
     let status = if error.kind() == io::ErrorKind::OutOfMemory {
         5
     } else {
         2
     };
-    Outcome { status, lines: 0 }
+    Report { status, lines: 0 }
 }
 
 fn main(rt: HostRuntime) -> ExitCode {
     let mut source = ReaderSource::new(rt.stdin());
     let mut sink = WriterSink::new(rt.stdout());
-    let outcome = match words_of(&rt) {
-        Ok(words) => run(rt.alloc(), &words, &mut source, &mut sink),
+    let report = match words_of(&rt) {
+        Ok(words) => Report::of(&run(rt.alloc(), &words, &mut source, &mut sink)),
         Err(error) => without_words(&error),
     };
-    let status = outcome.status;
-    let report = Report(outcome);
     if report.is_needed() {
         // Where standard error can't be written to, the status alone says it.
         let _ = rt.eprintln(&report);
     }
-    ExitCode::from(status)
+    ExitCode::from(report.status)
 }

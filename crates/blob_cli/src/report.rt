@@ -4,20 +4,31 @@ use node_runner::Outcome;
 use std::fmt;
 
 /// The line for standard error on a run's end. It has no text for a run that went through.
-#[derive(Drop)]
-pub struct Report(pub Outcome);
+#[derive(Clone, Copy)]
+pub struct Report {
+    pub status: u8,
+    pub lines: u64,
+}
 
 impl Report {
+    /// What is to be said of a run that ended so.
+    pub fn of(outcome: &Outcome) -> Report {
+        Report {
+            status: outcome.status,
+            lines: outcome.lines,
+        }
+    }
+
     /// Whether there is anything to say.
     pub fn is_needed(&self) -> bool {
-        self.0.status != 0
+        self.status != 0
     }
 }
 
 impl fmt::Display for Report {
     fn fmt<W: fmt::Write>(&self, f: &mut fmt::Formatter<W>) -> fmt::Result {
-        let lines = self.0.lines;
-        match self.0.status {
+        let lines = self.lines;
+        match self.status {
             0 => Ok(()),
             1 => {
                 let bad = lines.saturating_add(1);

@@ -3,7 +3,6 @@
 use crate::report::Report;
 use crate::streams::{ReaderSource, WriterSink};
 use disk_base::{Sink, Source};
-use node_runner::Outcome;
 use std::io::{self, Write};
 use std::test::Fail;
 
@@ -22,7 +21,7 @@ fn each_status_has_its_line(rt: HostRuntime) -> Result<(), Fail> {
         (5, true, "blobstore: no memory after line 7"),
     ];
     for (status, is_needed, line) in table {
-        let report = Report(Outcome { status, lines: 7 });
+        let report = Report { status, lines: 7 };
         assert_eq!(rt; report.is_needed(), is_needed, "{status}");
         let said = format!(in rt.alloc(); "{report}")?;
         assert_eq!(rt; said.as_str(), line, "{status}");

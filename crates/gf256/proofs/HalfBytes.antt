@@ -79,6 +79,12 @@ halves_sum b p =
 pub product_by_halves : (factor b : ℕ) → b < 256 → bit_xor (product factor (b % 16)) (product factor (16 * (b / 16))) ≡ product factor b
 product_by_halves factor b p = sym (product-xor_right factor (b % 16) (16 * (b / 16))) ∙ ap (product factor) (halves_sum b p)
 
+pub product_found : (factor b : ℕ) (low high : List ℕ) → HasHalves factor low high → b < 256 → bit_xor (get_or low (b % 16) 0) (get_or high (b / 16) 0) ≡ product factor b
+product_found factor b low high has small =
+    ap (λ x. bit_xor x (get_or high (b / 16) 0)) (has.low_is (b % 16) (omega arith))
+    ∙ ap (bit_xor (product factor (b % 16))) (has.high_is (b / 16) (omega arith))
+    ∙ product_by_halves factor b small
+
 -- ---- lanes
 pub lane_below : (bytes : List ℕ) (i : ℕ) → Each1 (λ byte. byte < 256) bytes → get_or bytes i 0 < 256
 lane_below [] i fits = omega arith

@@ -3,7 +3,8 @@ use Rattle.std.proofs.Common.{◌≡◌, refl, ap, ℕ, zero, suc, ◌+◌, ◌*
 use Rattle.std.proofs.lemmas.Bool.{eqb-true, and_parts}
 use Rattle.gf256.specs.Field.{times_x, horner, product}
 use Rattle.gf256.specs.Halves.{HasHalves}
-use Rattle.gf256.specs.declared.halves.TheConstants.{LOW_HALVES, HIGH_HALVES}
+use Rattle.gf256.specs.declared.low_halves.TheConstants.{LOW_HALVES}
+use Rattle.gf256.specs.declared.high_halves.TheConstants.{HIGH_HALVES}
 
 -- these are the products of a factor with j times a step and the multiples after it
 abbrev is_row : ℕ → ℕ → ℕ → List ℕ → Bool

@@ -1,6 +1,6 @@
 -- `times_x` and `horner`, by which a product is computed, and how they go with sums.
-use Rattle.std.proofs.Common.{◌≡◌, ℕ, zero, suc, ◌+◌, ◌-◌, ◌*◌, ◌/◌, ◌%◌, ◌^◌, ◌<◌, ◌≤◌, bit_xor, refl, sym, ◌∙◌, ap, arith}
-use Rattle.std.specs.Int.Bits.{xor_assoc, xor_self, xor_zero_l, xor_zero_r}
+use Rattle.std.proofs.Common.{◌≡◌, ℕ, zero, suc, ◌+◌, ◌-◌, ◌*◌, ◌/◌, ◌%◌, ◌^◌, ◌<◌, bit_xor, refl, sym, ◌∙◌, ap, arith}
+use Rattle.std.specs.Int.Bits.{xor_self, xor_zero_l, xor_zero_r}
 use Rattle.std.proofs.lemmas.Nat.{xor_shr, xor_mod, xor_block}
 use Rattle.gf256.specs.Field.{times_coefficient, times_x, horner}
 use Rattle.gf256.proofs.Xor.{xor_swap, xor-half, xor-parity, double-xor, xor_byte}
@@ -40,13 +40,6 @@ times_x-small a p =
     let low : a % 128 ≡ a = omega arith in
     let high : a / 128 % 2 ≡ 0 = omega arith in
     rw (low, high) (xor_zero_r (2 * a))
-
-pub times_x-large : (a : ℕ) → 128 ≤ a → a < 256 → times_x a ≡ bit_xor (2 * (a - 128)) 29
-unfolding times_x
-times_x-large a p q =
-    let low : a % 128 ≡ a - 128 = omega arith in
-    let high : a / 128 % 2 ≡ 1 = omega arith in
-    rw (low, high) refl
 
 pub times_x-xor : (a b : ℕ) → times_x (bit_xor a b) ≡ bit_xor (times_x a) (times_x b)
 unfolding times_x
@@ -108,13 +101,6 @@ horner-times_x (suc n) a b =
     ∙ ap (λ x. bit_xor (times_x (times_coefficient (a % 2) b)) (times_x x)) (horner-times_x n (a / 2) b)
     ∙ sym (times_x-xor (times_coefficient (a % 2) b) (times_x (horner n (a / 2) b)))
 
--- one place of the sum moved over
-pub horner_next : (n s a b : ℕ) → bit_xor s (horner (suc n) a b) ≡ bit_xor (bit_xor s (times_coefficient (a % 2) b)) (horner n (a / 2) (times_x b))
-unfolding horner
-horner_next n s a b =
-    ap (λ x. bit_xor s (bit_xor (times_coefficient (a % 2) b) x)) (sym (horner-times_x n (a / 2) b))
-    ∙ sym (xor_assoc s (times_coefficient (a % 2) b) (horner n (a / 2) (times_x b)))
-
 -- a number by its lowest coefficient and the rest
 pub halves : (a : ℕ) → a < 256 → bit_xor (a % 2) (times_x (a / 2)) ≡ a
 halves a p =
@@ -146,5 +132,3 @@ horner-one (suc n) a p q =
     ap (λ x. bit_xor x (times_x (horner n (a / 2) 1))) (times_coefficient-one a)
     ∙ ap (λ x. bit_xor (a % 2) (times_x x)) (horner-one n (a / 2) small (omega arith))
     ∙ halves a q
-
-pub ruleset shifts = (times_x-small, times_x-large)

@@ -5,7 +5,8 @@ ghost use Rattle.gf256.specs.Sums.{AreBytesAt};
 ghost use Rattle.std.specs.Simd.Lanes.{Each1};
 ghost use Rattle.gf256.specs.Halves.{HasHalves, AddsProducts};
 
-use crate::halves::{HIGH_HALVES, LOW_HALVES};
+use crate::high_halves::HIGH_HALVES;
+use crate::low_halves::LOW_HALVES;
 use std::simd::prelude::*;
 
 /// The products of one factor with each half byte: the low ones 0 to 15, and the high ones 0, 16 to 240.

@@ -6,11 +6,12 @@
 //! `combine`, which gives for each `FactorRow` the sum of the products of its factors and some sources.
 #![tactic(auto)]
 
-mod halves;
+mod high_halves;
 mod invert;
 mod kernel;
 mod lanes;
 pub mod laws;
+mod low_halves;
 mod multiply;
 mod outputs;
 mod row;

@@ -1,44 +1,17 @@
-//! Products and powers, one coefficient at a time.
+//! Products, by the products of half bytes, and powers.
 
-ghost use Rattle.std.specs.Prelude.{◌≡◌, ◌%◌};
-ghost use Rattle.gf256.specs.Field.{IsProduct, times_coefficient, times_x, product, power_of};
+ghost use Rattle.std.specs.Prelude.{◌≡◌};
+ghost use Rattle.gf256.specs.Field.{IsProduct, product, power_of};
 
-/// `a` times the polynomial x.
-#[tactic(auto, using(crate::proofs::Horner::shifts))]
-fn shifted(a: u8) -> u8
-    ensures { result ≡ times_x a }
-{
-    if a < 128 {
-        2 * a
-    } else {
-        (2 * (a - 128)) ^ 0x1D
-    }
-}
-
-/// `b` where the lowest coefficient of `a` is 1, and else 0.
-fn lowest_times(a: u8, b: u8) -> u8
-    ensures { result ≡ times_coefficient (a % 2) b }
-{
-    match a % 2 {
-        0 => 0,
-        _ => b,
-    }
-}
+use crate::lanes::halves_of;
 
 /// The product of `a` and `b` in the field.
 pub fn mul(a: u8, b: u8) -> u8
     ensures is_product { IsProduct a b result }
     ensures value { result ≡ product a b }
 {
-    let mut sum = 0;
-    let mut left = a;
-    let mut factor = b;
-    for _place in 0..8u8 {
-        sum ^= lowest_times(left, factor);
-        factor = shifted(factor);
-        left /= 2;
-    }
-    sum
+    let halves = halves_of(a);
+    halves.low[b as usize % 16] ^ halves.high[b as usize / 16]
 }
 
 /// The product of `k` factors `a`, which is 1 where `k` is 0.

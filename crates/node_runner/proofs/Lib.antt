@@ -1,7 +1,5 @@
+pub mod Blocks
 pub mod Gains
-pub mod GivenLines
-pub mod LineCuts
-pub mod LineSteps
 pub mod Lines
 pub mod ModeNames
 pub mod Numerals

@@ -1,29 +1,50 @@
 -- Lemmas on the lines of an input that ran.
-use Rattle.std.proofs.Common.{◌≡◌, ℕ, zero, suc, ◌+◌, ◌-◌, ◌<◌, ◌≤◌, Bool, true, false, cond, ◌&&◌, List, [], ◌∷◌, ◌++◌, length, map, take, Option, Some, None, IfSome, IsSome, IsSomeAnd, option_map, refl, sym, ◌∙◌, ap, subst, arith, append_assoc, append-nil, length-append}
-use Rattle.std.specs.List.{list_all, take_while}
+use Rattle.std.proofs.Common.{◌≡◌, ℕ, zero, suc, ◌+◌, ◌-◌, ◌<◌, ◌≤◌, Bool, true, false, ◌&&◌, List, [], ◌∷◌, ◌++◌, length, map, take, Option, Some, None, IfSome, IsSome, IsSomeAnd, option_map, refl, sym, ◌∙◌, ap, subst, arith, append_assoc, append-nil, length-append}
+use Rattle.std.specs.Prelude.{if◌then◌else◌}
+use Rattle.std.specs.List.{list_all}
 use Rattle.std.proofs.lemmas.Bool.{false≢true}
 use Rattle.std.proofs.lemmas.List.{length-map}
 use Rattle.std.proofs.lemmas.List.Folds.{list_all-append}
-use Rattle.std.proofs.lemmas.List.Sums.{take_while-cons}
 use Rattle.std.proofs.lemmas.Option.{same_Some}
 use Rattle.std.proofs.Math.Seq.{take-append-add, take-append_seam}
 use Rattle.disk_base.specs.Streams.{SourceView}
-use Rattle.node_runner.specs.Lines.{Line, content, is_too_long, cut_lines, whole_lines, first_line, after_line, HasNoEnd, StillComes, nothing_buffered}
-use Rattle.node_runner.specs.Feeding.{FeedView, feed_of, comes, KeepsFeed, Gives}
-use Rattle.node_runner.specs.Run.{is_said, is_in_language, most_lines, good_lines, pulled, RanAll, RanGood, RanPulled, RanFirst}
-use Rattle.node_runner.specs.Progress.{line_bytes, bytes_of_lines, AreCut, IsAtEnd, IsBehind, NextIsBad, HasMore}
-use Rattle.node_runner.proofs.LineSteps.{front_line, front_no_end, cut_front, bytes_front, whole_front}
+use Rattle.script_lines.specs.Lines.{Line, content, line_bytes, bytes_of_lines, AreCut, is_too_long, cut_lines, whole_lines, first_line, after_line, HasNoEnd, StillComes, nothing_buffered}
+use Rattle.script_lines.specs.Feeding.{FeedView, feed_of, comes, KeepsFeed, Gives}
+use Rattle.node_runner.specs.Script.{inside_behind, inside_after}
+use Rattle.node_runner.specs.Run.{is_said, is_in_language, most_lines, good_from, good_lines, pulled, RanAll, RanGood, RanPulled, RanFirst}
+use Rattle.node_runner.specs.Progress.{are_good, IsAtEnd, IsBehind, NextIsBad, HasMore}
+use Rattle.script_lines.proofs.LineSteps.{front_line, front_no_end, cut_front, bytes_front, whole_front}
 use Rattle.node_runner.proofs.Objects.{map-last}
 
+-- a line that isn't inside a block is followed by none that is
+pub never_inside : (lines : List (List ℕ)) → inside_after false lines ≡ false
+never_inside [] = refl
+never_inside (line ∷ lines) = never_inside lines
+
 -- good lines at the front, and what is good behind them
-take_while-front : (p : Line → Bool) (ran more : List Line) → list_all p ran ≡ true → take_while p (ran ++ more) ≡ ran ++ take_while p more
-take_while-front p [] more h = refl
-take_while-front p (l ∷ ran) more h =
-    take_while-cons p l (ran ++ more) ∙ go (p l) h (take_while-front p ran more)
+good_from-front : (inside : Bool) (ran more : List Line) → are_good inside ran ≡ true → good_from inside (ran ++ more) ≡ ran ++ good_from (inside_after inside (map content ran)) more
+good_from-front inside [] more h = refl
+good_from-front inside (l ∷ ran) more h = go (is_in_language inside l) h (good_from-front (inside_behind inside (content l)) ran more)
   where
-    go : (b : Bool) → (b && list_all p ran) ≡ true → (list_all p ran ≡ true → take_while p (ran ++ more) ≡ ran ++ take_while p more)
-        → cond b (l ∷ take_while p (ran ++ more)) [] ≡ l ∷ (ran ++ take_while p more)
+    next : Bool
+    next = inside_behind inside (content l)
+
+    go : (b : Bool) → (b && are_good next ran) ≡ true → (are_good next ran ≡ true → good_from next (ran ++ more) ≡ ran ++ good_from (inside_after next (map content ran)) more)
+        → (if b then l ∷ good_from next (ran ++ more) else []) ≡ l ∷ (ran ++ good_from (inside_after next (map content ran)) more)
     go true e ih = ap (λ ls. l ∷ ls) (ih e)
+    go false e ih = cc
+
+-- one good line more
+are_good-snoc : (inside : Bool) (ran : List Line) (line : Line) → are_good inside ran ≡ true → is_in_language (inside_after inside (map content ran)) line ≡ true → are_good inside (ran ++ line ∷ []) ≡ true
+are_good-snoc inside [] line h k = rw (k) refl
+are_good-snoc inside (l ∷ ran) line h k = go (is_in_language inside l) h (are_good-snoc (inside_behind inside (content l)) ran line)
+  where
+    next : Bool
+    next = inside_behind inside (content l)
+
+    go : (b : Bool) → (b && are_good next ran) ≡ true → (are_good next ran ≡ true → is_in_language (inside_after next (map content ran)) line ≡ true → are_good next (ran ++ line ∷ []) ≡ true)
+        → (b && are_good next (ran ++ line ∷ [])) ≡ true
+    go true e ih = ih e k
     go false e ih = cc
 
 take-front : (n : ℕ) (ran more : List Line) → length ran ≤ n → take n (ran ++ more) ≡ ran ++ take (n - length ran) more
@@ -34,34 +55,36 @@ take-front n ran more h =
     split a b h = omega arith
 
 -- what is good of an input whose first lines ran
-pub good_front : (ran more : List Line) → list_all is_in_language ran ≡ true → length ran ≤ most_lines
-    → good_lines (ran ++ more) ≡ ran ++ take_while is_in_language (take (most_lines - length ran) more)
+pub good_front : (ran more : List Line) → are_good false ran ≡ true → length ran ≤ most_lines
+    → good_lines (ran ++ more) ≡ ran ++ good_from false (take (most_lines - length ran) more)
 good_front ran more good few =
-    ap (take_while is_in_language) (take-front most_lines ran more few) ∙ take_while-front is_in_language ran (take (most_lines - length ran) more) good
+    let behind = take (most_lines - length ran) more in
+    ap (good_from false) (take-front most_lines ran more few) ∙ good_from-front false ran behind good
+    ∙ ap (λ inside. ran ++ good_from inside behind) (never_inside (map content ran))
 
 take_none : (n : ℕ) → take {A = Line} n [] ≡ []
 take_none zero = refl
 take_none (suc n) = refl
 
 -- all of it
-pub good_whole : (ran : List Line) → list_all is_in_language ran ≡ true → length ran ≤ most_lines → good_lines ran ≡ ran
+pub good_whole : (ran : List Line) → are_good false ran ≡ true → length ran ≤ most_lines → good_lines ran ≡ ran
 good_whole ran good few =
-    ap good_lines (sym (append-nil ran)) ∙ good_front ran [] good few ∙ ap (λ ls. ran ++ take_while is_in_language ls) (take_none (most_lines - length ran)) ∙ append-nil ran
+    ap good_lines (sym (append-nil ran)) ∙ good_front ran [] good few ∙ ap (λ ls. ran ++ good_from false ls) (take_none (most_lines - length ran)) ∙ append-nil ran
 
-take_while-stops : (p : Line → Bool) (n : ℕ) (line : Line) (more : List Line) → p line ≡ false → take_while p (take n (line ∷ more)) ≡ []
-take_while-stops p zero line more h = refl
-take_while-stops p (suc n) line more h = take_while-cons p line (take n more) ∙ ap (λ b. cond b (line ∷ take_while p (take n more)) []) h
+good_from-stops : (n : ℕ) (line : Line) (more : List Line) → is_in_language false line ≡ false → good_from false (take n (line ∷ more)) ≡ []
+good_from-stops zero line more h = refl
+good_from-stops (suc n) line more h = ap (λ b. if b then line ∷ good_from false (take n more) else []) h
 
 -- no more than what ran, where the next line isn't in the language
-pub good_stops : (ran : List Line) (line : Line) (more : List Line) → list_all is_in_language ran ≡ true → length ran ≤ most_lines → is_in_language line ≡ false
+pub good_stops : (ran : List Line) (line : Line) (more : List Line) → are_good false ran ≡ true → length ran ≤ most_lines → is_in_language false line ≡ false
     → good_lines (ran ++ line ∷ more) ≡ ran
 good_stops ran line more good few bad =
-    good_front ran (line ∷ more) good few ∙ ap (λ ls. ran ++ ls) (take_while-stops is_in_language (most_lines - length ran) line more bad) ∙ append-nil ran
+    good_front ran (line ∷ more) good few ∙ ap (λ ls. ran ++ ls) (good_from-stops (most_lines - length ran) line more bad) ∙ append-nil ran
 
 -- no more than what ran, where as many ran as may
-pub good_full : (ran more : List Line) → list_all is_in_language ran ≡ true → length ran ≡ most_lines → good_lines (ran ++ more) ≡ ran
+pub good_full : (ran more : List Line) → are_good false ran ≡ true → length ran ≡ most_lines → good_lines (ran ++ more) ≡ ran
 good_full ran more good full =
-    good_front ran more good (omega (arith, full)) ∙ ap (λ n. ran ++ take_while is_in_language (take n more)) nothing ∙ append-nil ran
+    good_front ran more good (omega (arith, full)) ∙ ap (λ n. ran ++ good_from false (take n more)) nothing ∙ append-nil ran
   where
     nothing : most_lines - length ran ≡ 0
     nothing = omega (arith, full)
@@ -101,7 +124,7 @@ all-snoc p ran line h k = list_all-append p ran (line ∷ []) ∙ rw (h, k) refl
 at_some : (P : List ℕ → Type 0) (o : Option (List ℕ)) (x : List ℕ) → o ≡ Some x → IfSome o P → P x
 at_some P o x e h = subst (λ (found : Option (List ℕ)). IfSome found P) e h
 
-language : (line : Line) (bytes : List ℕ) → is_too_long line ≡ false → content line ≡ bytes → is_said bytes ≡ true → is_in_language line ≡ true
+language : (line : Line) (bytes : List ℕ) → is_too_long line ≡ false → content line ≡ bytes → is_said false bytes ≡ true → is_in_language false line ≡ true
 language line bytes short says said = rw (short, says, said) refl
 
 -- a source that tells has nothing left where it said so
@@ -113,7 +136,7 @@ at_end_kept old new keeps told at over = go old.buffer.is_over refl where
 
 -- one line more
 pub behind_more : (input : List ℕ) (said : List (List ℕ)) (bytes : List ℕ) (old new : FeedView) → IsBehind input said old → IfSome (comes old) (Gives bytes old new)
-    → is_said bytes ≡ true → KeepsFeed old new → IsBehind input (said ++ bytes ∷ []) new
+    → is_said false bytes ≡ true → KeepsFeed old new → IsBehind input (said ++ bytes ∷ []) new
 behind_more input said bytes old new b gives is_good keeps =
     let g : Gives bytes old new b.rest = at_some (Gives bytes old new) (comes old) b.rest b.to_come gives in
     record {
@@ -127,7 +150,7 @@ behind_more input said bytes old new b gives is_good keeps =
           ∙ ap (λ f. (bytes_of_lines b.ran ++ f) ++ after_line b.rest) (sym (append-nil (line_bytes g.line)))
           ∙ ap (λ f. f ++ after_line b.rest) (sym (bytes-append b.ran (g.line ∷ [])));
       are_cut = AreCut-snoc b.ran g.line b.are_cut (no_end_next b.rest g.line g.next);
-      good = all-snoc is_in_language b.ran g.line b.good (language g.line bytes g.short g.says is_good);
+      good = are_good-snoc false b.ran g.line b.good (ap (λ inside. is_in_language inside g.line) (never_inside (map content b.ran)) ∙ language g.line bytes g.short g.says is_good);
       ended = λ still. all-snoc (λ line. line.is_ended) b.ran g.line (b.ended (g.not_over still).0) (g.not_over still).1;
       told = keeps.told b.told;
       at_end = at_end_kept old new keeps b.told b.at_end;
@@ -179,7 +202,7 @@ all_ran input said old new b keeps none over few =
 -- a line that isn't in the language
 pub good_ran : (input : List ℕ) (said : List (List ℕ)) (feed : FeedView) → IsBehind input said feed → IfSome (comes feed) NextIsBad → length said ≤ most_lines → RanGood input said
 good_ran input said feed b bad few = go (first_line b.rest) refl (at_some NextIsBad (comes feed) b.rest b.to_come bad) where
-  go : (first : Option Line) → first_line b.rest ≡ first → IsSomeAnd first (λ line. is_in_language line ≡ false) → RanGood input said
+  go : (first : Option Line) → first_line b.rest ≡ first → IsSomeAnd first (λ line. is_in_language false line ≡ false) → RanGood input said
   go None e h = absurd h
   go (Some line) e h =
       let all = cut_next input b.ran b.rest line b.cut e in
@@ -248,7 +271,7 @@ take-ran ran more n e = ap (λ k. take k (ran ++ more)) (sym e) ∙ take-append_
 pub first_ran : (input : List ℕ) (said : List (List ℕ)) (feed : FeedView) → IsBehind input said feed → length said ≤ most_lines → RanFirst input said
 first_ran input said feed b few =
     let size = size_is said b.ran b.says in
-    let more = take_while is_in_language (take (most_lines - length b.ran) (cut_lines b.rest)) in
+    let more = good_from false (take (most_lines - length b.ran) (cut_lines b.rest)) in
     let good : good_lines (cut_lines input) ≡ b.ran ++ more = ap good_lines b.cut ∙ good_front b.ran (cut_lines b.rest) b.good (omega (arith, size, few)) in
     let ran : take (length said) (good_lines (cut_lines input)) ≡ b.ran = ap (take (length said)) good ∙ take-ran b.ran more (length said) size in
     record {

@@ -10,7 +10,9 @@ use Rattle.node_runner.specs.declared.reply.Refusal.{Refusal}
 use Rattle.node_runner.specs.declared.reply.Refusal.TheVariants as causes
 use Rattle.node_runner.specs.declared.reply.LineReply.{LineReply}
 use Rattle.node_runner.specs.declared.reply.LineReply.TheVariants as replies
-use Rattle.node_runner.specs.Session.{Object, State, Step, Loss, Turn, fresh, size_of, named, next_bid, first_volume, first_that_holds, largest_object, disks_refusal, volume_refusal, put_refusal, get_refusal, bytes_in, object_of, with_object, Unless, Answers, Does, AreTurns, entered_by, entered_from, ShowsWhatWasPut, EntersNewNames}
+use Rattle.node_runner.specs.declared.session.Spot.{Spot}
+use Rattle.node_runner.specs.declared.session.Lost.{Lost}
+use Rattle.node_runner.specs.Session.{Object, State, Turn, fresh, size_of, named, next_bid, first_volume, first_that_holds, largest_object, disks_refusal, volume_refusal, put_refusal, get_refusal, bytes_in, object_of, with_object, Unless, Answers, Does, AreTurns, entered_by, entered_from, ShowsWhatWasPut, EntersNewNames}
 
 -- the bytes of an object, where there is one
 abbrev carried_by : Option Object → Option (List ℕ)
@@ -89,7 +91,7 @@ shown_after old (commands.Get get) reply new name h = go (get_refusal (named old
   go None h = ap (λ s. shown s name) h.1
 
 -- a turn is the answer to its command
-answers_of : (old : State) (command : Command) (own : List Step) (lost : Option Loss) (reply : LineReply) (new : State) → Does old command own lost reply new → Answers old command reply new
+answers_of : (old : State) (command : Command) (own : List Spot) (lost : Option Lost) (reply : LineReply) (new : State) → Does old command own lost reply new → Answers old command reply new
 answers_of old command [] None reply new h = h
 answers_of old command [] (Some loss) reply new h = absurd h
 answers_of old command (step ∷ own) lost reply new h = absurd h

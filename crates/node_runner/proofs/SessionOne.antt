@@ -5,7 +5,9 @@ use Rattle.node_runner.specs.declared.command.Command.TheVariants as commands
 use Rattle.node_runner.specs.declared.reply.Refusal.{Refusal}
 use Rattle.node_runner.specs.declared.reply.LineReply.{LineReply}
 use Rattle.node_runner.specs.declared.reply.LineReply.TheVariants as replies
-use Rattle.node_runner.specs.Session.{State, Step, Loss, Turn, fresh, size_of, named, next_bid, first_volume, disks_refusal, volume_refusal, put_refusal, get_refusal, bytes_in, object_of, with_object, Unless, Answers, Does, AreTurns, commands_of, CommandsDecide}
+use Rattle.node_runner.specs.declared.session.Spot.{Spot}
+use Rattle.node_runner.specs.declared.session.Lost.{Lost}
+use Rattle.node_runner.specs.Session.{State, Turn, fresh, size_of, named, next_bid, first_volume, disks_refusal, volume_refusal, put_refusal, get_refusal, bytes_in, object_of, with_object, Unless, Answers, Does, AreTurns, commands_of, CommandsDecide}
 
 -- a refusal, or one answer
 one_unless : (refusal : Option Refusal) (command : Command) (old : State) (reply other : LineReply) (new behind : State) (done : LineReply) (after : State)
@@ -31,7 +33,7 @@ record Same (turn other : Turn) (new behind : State) : Type 0 where
   turns : turn ≡ other
   states : new ≡ behind
 
-one_turn : (old : State) (command : Command) (own own' : List Step) (lost lost' : Option Loss) (reply other : LineReply) (new behind : State)
+one_turn : (old : State) (command : Command) (own own' : List Spot) (lost lost' : Option Lost) (reply other : LineReply) (new behind : State)
     → Does old command own lost reply new → Does old command own' lost' other behind
     → Same (record { command = command; own = own; lost = lost; reply = reply }) (record { command = command; own = own'; lost = lost'; reply = other }) new behind
 one_turn old command [] [] None None reply other new behind h k =

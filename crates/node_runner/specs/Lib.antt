@@ -1,6 +1,3 @@
-pub mod Cuts
-pub mod Feeding
-pub mod Lines
 pub mod Progress
 pub mod Reading
 pub mod Run

@@ -1,5 +1,5 @@
 -- The language of scripts: which line spells which command.
-use Rattle.std.specs.Prelude.{ℕ, ◌^◌, Bool, true, if◌then◌else◌, ◌==◌, ◌&&◌, ◌||◌, nat_lt, nat_le, List, [], ◌∷◌, length, filter, slice_index, codes, Option, Some, None, option_map, option_and_then}
+use Rattle.std.specs.Prelude.{ℕ, ◌^◌, Bool, true, false, not, if◌then◌else◌, ◌==◌, ◌&&◌, ◌||◌, nat_lt, nat_le, List, [], ◌∷◌, length, filter, slice_index, codes, Option, Some, None, option_map, option_and_then}
 use Rattle.std.specs.List.{slice_split, list_all, find}
 use Rattle.std.specs.Str.{bytes_eq}
 use Rattle.std.specs.Char.{is_ascii_digit, is_ascii_alphanumeric}
@@ -117,3 +117,23 @@ spelled_by (word ∷ words) =
 -- the command that a line spells, if it spells one
 abbrev pub command_of : List ℕ → Option Command
 command_of line = spelled_by (words_of line)
+
+-- a command that may stand inside a block
+abbrev pub may_stand_inside : Command → Bool
+may_stand_inside (commands.Disks count) = false
+may_stand_inside (commands.Volume mode) = false
+may_stand_inside (commands.Put name body) = true
+may_stand_inside (commands.Get name) = true
+
+-- the command that a line spells, if it may stand there: inside a block or outside
+abbrev pub command_at : Bool → List ℕ → Option Command
+command_at inside line = command_of line >>= λ command. if inside && not (may_stand_inside command) then None else Some command
+
+-- Whether the next line stands inside a block, behind a line that does or doesn't: no command begins or ends one yet.
+abbrev pub inside_behind : Bool → List ℕ → Bool
+inside_behind inside line = inside
+
+-- .. behind all of these lines
+abbrev pub inside_after : Bool → List (List ℕ) → Bool
+inside_after inside [] = inside
+inside_after inside (line ∷ lines) = inside_after (inside_behind inside line) lines

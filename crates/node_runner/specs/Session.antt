@@ -1,5 +1,5 @@
--- A session: for each command a turn, from the state that the turns before it left.
-use Rattle.std.specs.Prelude.{◌≡◌, ℕ, ◌+◌, if◌then◌else◌, Bool, ◌||◌, ◌==◌, nat_lt, List, [], ◌∷◌, ◌++◌, length, take, slice_get, Option, Some, None, is_some, is_none}
+-- A session: for each command a turn, from the state that the turns before it left; and what of it is handed out.
+use Rattle.std.specs.Prelude.{◌≡◌, ℕ, ◌+◌, ◌⊎◌, if◌then◌else◌, Bool, ◌||◌, ◌==◌, nat_lt, List, [], ◌∷◌, ◌++◌, length, map, take, slice_get, Option, Some, None, is_some, is_none}
 use Rattle.std.specs.Str.{bytes_eq}
 use Rattle.std.specs.Map.{lookup}
 use Rattle.code_mode.specs.declared.mode.Mode.{Mode}
@@ -15,6 +15,11 @@ use Rattle.node_runner.specs.declared.reply.Refusal.{Refusal}
 use Rattle.node_runner.specs.declared.reply.Refusal.TheVariants as causes
 use Rattle.node_runner.specs.declared.reply.LineReply.{LineReply}
 use Rattle.node_runner.specs.declared.reply.LineReply.TheVariants as replies
+use Rattle.node_runner.specs.declared.session.Spot.{Spot}
+use Rattle.node_runner.specs.declared.session.Lost.{Lost}
+use Rattle.node_runner.specs.declared.session.Said.{Said}
+use Rattle.node_runner.specs.declared.session.Past.{Past}
+use Rattle.node_runner.specs.declared.session.Session.{Session}
 
 -- the most disks that a store has
 abbrev pub most_disks : ℕ
@@ -123,27 +128,19 @@ Answers old (commands.Put name body) reply new =
 Answers old (commands.Get name) reply new =
     Unless (get_refusal (named old name)) (commands.Get name) old reply new ((reply ≡ replies.Got name (bytes_in (named old name))) × (new ≡ old))
 
--- an entry of a volume's history, and what may be lost while a volume is made: there is neither yet
-abbrev pub Entry : Type 0
-Entry = ⊥
+-- nothing was done
+abbrev pub nothing_said : Said
+nothing_said = record { own = []; lost = None }
 
-abbrev pub Loss : Type 0
-Loss = ⊥
-
--- an entry that a command adds to a volume
-pub record Step : Type 0 where
-  pub vid : ℕ
-  pub entry : Entry
-
--- a command, the entries that it added itself, what was lost, and its reply
+-- a command, the places of the entries that it added itself, what was lost, and its reply
 pub record Turn : Type 0 where
   pub command : Command
-  pub own : List Step
-  pub lost : Option Loss
+  pub own : List Spot
+  pub lost : Option Lost
   pub reply : LineReply
 
 -- no command adds an entry or loses anything yet
-abbrev pub Does : State → Command → List Step → Option Loss → LineReply → State → Type 0
+abbrev pub Does : State → Command → List Spot → Option Lost → LineReply → State → Type 0
 Does old command [] None reply new = Answers old command reply new
 Does old command own lost reply new = ⊥
 
@@ -159,6 +156,37 @@ AreTurns old (turn ∷ turns) new = (next : State) × IsTurn old turn next × Ar
 abbrev pub commands_of : List Turn → List Command
 commands_of [] = []
 commands_of (turn ∷ turns) = turn.command ∷ commands_of turns
+
+-- what is said of a turn: its command is its line's, and its reply is printed
+abbrev pub said_of : Turn → Said
+said_of turn = record { own = turn.own; lost = turn.lost }
+
+-- the volumes that were made
+abbrev pub pasts_of : State → List Past
+pasts_of state = if is_some state.volume then record { vid = first_volume } ∷ [] else []
+
+-- a session as it is handed out, where these things are said and this state was reached
+abbrev pub handed_out : State → List Said → Session
+handed_out state saids = record { pasts = pasts_of state; turns = saids }
+
+-- The session of these turns: they lead from nothing to its state.
+pub record IsSession (session : Session) (turns : List Turn) : Type 0 where
+  pub state : State
+  pub are_turns : AreTurns fresh turns state
+  pub is : session ≡ handed_out state (map said_of turns)
+
+-- A command that was begun and broke off: it did nothing, or all that it does, but has no text. What it said is kept.
+abbrev pub BreaksOff : State → Command → Said → State → Type 0
+BreaksOff old command said new = ((said ≡ nothing_said) × (new ≡ old)) ⊎ ((reply : LineReply) × Does old command said.own said.lost reply new)
+
+-- The session of these turns and of one more, which was begun for this command and broke off.
+pub record IsBrokenSession (session : Session) (turns : List Turn) (command : Command) : Type 0 where
+  pub before : State
+  pub are_turns : AreTurns fresh turns before
+  pub last : Said
+  pub state : State
+  pub breaks : BreaksOff before command last state
+  pub is : session ≡ handed_out state (map said_of turns ++ last ∷ [])
 
 -- what a name stands for behind a turn: a put of it that was done enters the bytes that the put carried
 abbrev pub entered_by : List ℕ → Command → LineReply → Option (List ℕ) → Option (List ℕ)

@@ -2,6 +2,7 @@
 use Rattle.std.specs.Prelude.{ℕ, ◌≡◌, List, [], ◌∷◌, map}
 use Rattle.std.proofs.Common.{Vec, Global}
 use Rattle.code_mode.specs.declared.mode.Mode.{Mode}
+use Rattle.rs_code.specs.Shape.{shape}
 use Rattle.node_runner.specs.Session.{Object}
 use Rattle.node_runner.specs.Volumes.{VolumeState}
 use Rattle.node_runner.specs.Stripes.{shape_of, blob_in, IsStripe}
@@ -22,5 +23,5 @@ volume_of inside = record { mode = inside.mode; objects = map (λ entry. (entry.
 
 -- the coder is one of the mode, and each object is whole
 pub record IsSound (inside : Inside) : Type 0 where
-  pub coder : inside.coder ≡ shape_of inside.mode
+  pub coder : shape inside.coder ≡ shape_of inside.mode
   pub kept : AreWhole inside.mode inside.kept.entries

@@ -1,5 +1,8 @@
 //! The commands of a script.
 
+ghost use Rattle.std.specs.Prelude.{◌≡◌};
+ghost use Rattle.node_runner.specs.Script.{may_stand_inside};
+
 use code_mode::Mode;
 use unit_id::Bytes;
 
@@ -23,4 +26,16 @@ pub enum Command {
     Put { name: Bytes, body: Body },
     /// `get NAME`
     Get { name: Bytes },
+}
+
+impl Command {
+    /// Whether its line may stand inside a block.
+    pub fn may_stand_inside(&self) -> bool
+        ensures { result ≡ may_stand_inside self.now }
+    {
+        match self {
+            Command::Disks { count: _ } | Command::Volume { mode: _ } => false,
+            Command::Put { name: _, body: _ } | Command::Get { name: _ } => true,
+        }
+    }
 }

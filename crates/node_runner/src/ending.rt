@@ -3,8 +3,8 @@
 ghost use Rattle.std.specs.Prelude.{◌≡◌};
 ghost use Rattle.node_runner.specs.Run.{status_of, is_closed};
 
-use crate::feed::LineFault;
 use crate::read::CommandFault;
+use script_lines::LineFault;
 
 /// How a run of a script ended.
 #[derive(Clone, Copy, Debug, PartialEq, Eq)]

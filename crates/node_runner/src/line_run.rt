@@ -1,39 +1,37 @@
 //! One line of a run: it is read, answered, and its text is pushed.
 
-ghost use Rattle.std.specs.Prelude.{◌≡◌, ◌≤◌, false, IfOk, IsErrOf};
-ghost use Rattle.node_runner.specs.Feeding.{feed_of, KeepsFeed};
-ghost use Rattle.node_runner.specs.Session.{Answers};
-ghost use Rattle.node_runner.specs.Text.{text_of_reply};
-ghost use Rattle.node_runner.specs.Run.{is_said};
-ghost use Rattle.node_runner.specs.Progress.{RunView, run_of, HasAnswered, HasAnsweredLine, EndsLine, PushesAll, KeepsCounts};
+ghost use Rattle.std.specs.Prelude.{◌≡◌, ◌≤◌};
+ghost use Rattle.script_lines.specs.Feeding.{feed_of, KeepsFeed};
+ghost use Rattle.node_runner.specs.Progress.{run_of, AnswersCommand, TellsLine, EndsLine, PushesAll};
 
 use crate::command::Command;
 use crate::ending::Ending;
-use crate::feed::Feed;
+use crate::kept::Kept;
 use crate::print::print_reply;
 use crate::read::{CommandFault, read_command};
-use crate::store::Store;
 use disk_base::{Failed, NoMemory, Sink, Source};
+use script_lines::Feed;
 use std::alloc::Global;
 use unit_id::Bytes;
 
-/// The text of the reply to a command.
-fn answer(alloc: Global, store: &mut Store, command: Command) -> Result<Bytes, NoMemory>
-    ensures { IfOk result (λ text. HasAnswered command text store.old store.new) }
+/// The text of the reply to a command, for which a turn is begun.
+fn answer(alloc: Global, kept: &mut Kept, command: Command) -> Result<Bytes, NoMemory>
+    ensures { AnswersCommand command result kept.old kept.new }
 {
-    let reply = store.answer(command)?;
-    print_reply(alloc, &reply)
+    match kept.answer(command) {
+        Ok(reply) => print_reply(alloc, &reply),
+        Err(NoMemory) => Err(NoMemory),
+    }
 }
 
 /// The text of a line: of the reply to its command, and none where it is passed over.
-fn answer_line(alloc: Global, store: &mut Store, line: &[u8]) -> Result<Bytes, CommandFault>
-    ensures text { IfOk result (λ text. HasAnsweredLine line.now text store.old store.new) }
-    ensures bad { IsErrOf result CommandFault.Bad → is_said line.now ≡ false }
+fn answer_line(alloc: Global, kept: &mut Kept, line: &[u8]) -> Result<Bytes, CommandFault>
+    ensures { TellsLine line.now result kept.old kept.new }
 {
     let Some(command) = read_command(alloc, line, false)? else {
         return Ok(Bytes::from_vec(Vec::new(alloc)));
     };
-    match answer(alloc, store, command) {
+    match answer(alloc, kept, command) {
         Ok(text) => Ok(text),
         Err(NoMemory) => Err(CommandFault::Memory),
     }
@@ -57,13 +55,13 @@ fn push_all<K: Sink>(sink: &mut K, bytes: &[u8]) -> Result<(), Failed>
 pub fn run_line<S: Source, K: Sink>(
     alloc: Global,
     feed: &mut Feed<S>,
-    store: &mut Store,
+    kept: &mut Kept,
     sink: &mut K,
 ) -> Result<(), Ending>
     ensures same_source { feed.new.source.ghost_name ≡ feed.old.source.ghost_name }
     ensures line { EndsLine result
-        (run_of (feed_of feed.old.buffer (S.seen feed.old.source.now)) store.old (K.seen sink.old))
-        (run_of (feed_of feed.new.buffer (S.seen feed.new.source.now)) store.new (K.seen sink.new)) }
+        (run_of (feed_of feed.old.buffer (S.seen feed.old.source.now)) kept.old (K.seen sink.old))
+        (run_of (feed_of feed.new.buffer (S.seen feed.new.source.now)) kept.new (K.seen sink.new)) }
     ensures feed { KeepsFeed (feed_of feed.old.buffer (S.seen feed.old.source.now)) (feed_of feed.new.buffer (S.seen feed.new.source.now)) }
     ensures counts { (K.seen sink.old).faults ≤ (K.seen sink.new).faults }
 {
@@ -72,7 +70,7 @@ pub fn run_line<S: Source, K: Sink>(
         Ok(None) => return Err(Ending::Whole),
         Err(fault) => return Err(Ending::from(fault)),
     };
-    let text = answer_line(alloc, store, line.as_slice())?;
+    let text = answer_line(alloc, kept, line.as_slice())?;
     match push_all(sink, text.as_slice()) {
         Ok(()) => Ok(()),
         Err(_) => Err(Ending::WriteFault),

@@ -4,7 +4,7 @@ ghost use Rattle.std.specs.Prelude.{◌≡◌, ◌+◌, ◌*◌, ◌^◌, ◌==�
 ghost use Rattle.std.specs.List.{list_all, AllPass};
 ghost use Rattle.std.specs.Char.{is_ascii_digit, digit_value};
 ghost use Rattle.std.specs.Str.Parse.{digits_value};
-ghost use Rattle.node_runner.specs.Script.{is_name_byte, is_name, name_of, number_of, number32_of, hex_of, mode_of, words_of, only_word, fill_of, body_of, disks_command, volume_command, put_command, get_command, spelled_by, command_of, is_passed_over};
+ghost use Rattle.node_runner.specs.Script.{is_name_byte, is_name, name_of, number_of, number32_of, hex_of, mode_of, words_of, only_word, fill_of, body_of, disks_command, volume_command, put_command, get_command, spelled_by, command_at, is_passed_over};
 ghost use Rattle.node_runner.specs.Reading.{Reads};
 
 use crate::command::{Body, Command};
@@ -257,8 +257,8 @@ fn is_comment(word: &[u8]) -> bool
 }
 
 /// The command that a line spells; `None` for a line without words and for a comment, whose first word
-/// begins with `#`. `Bad` where the line is neither and spells no command. `inside` tells that the line
-/// stands in a block; the language has no blocks yet, and it changes nothing.
+/// begins with `#`. `Bad` where the line is neither and spells no command, or one that may not stand there:
+/// `inside` tells that the line stands inside a block.
 pub fn read_command(
     alloc: Global,
     line: &[u8],
@@ -266,15 +266,18 @@ pub fn read_command(
 ) -> Result<Option<Command>, CommandFault>
     ensures found { IfOk result (λ found. MatchOption found
         (is_passed_over line.now ≡ true)
-        (λ command. (is_passed_over line.now ≡ false) × (command_of line.now ≡ Some command))) }
-    ensures bad { IsErrOf result CommandFault.Bad → (is_passed_over line.now ≡ false) × (command_of line.now ≡ None) }
+        (λ command. (is_passed_over line.now ≡ false) × (command_at inside line.now ≡ Some command))) }
+    ensures bad { IsErrOf result CommandFault.Bad → (is_passed_over line.now ≡ false) × (command_at inside line.now ≡ None) }
 {
-    let _ = inside;
     let Some((word, operands)) = next_word(line) else {
         return Ok(None);
     };
     if is_comment(word) {
         return Ok(None);
     }
-    Ok(Some(read_words(alloc, word, operands)?))
+    let command = read_words(alloc, word, operands)?;
+    if inside && !command.may_stand_inside() {
+        return Err(CommandFault::Bad);
+    }
+    Ok(Some(command))
 }

@@ -1,30 +1,33 @@
 //! A run of a script, from its bytes to the printed bytes.
 
-ghost use Rattle.std.specs.Prelude.{◌≡◌, ◌≤◌, false, map};
+ghost use Rattle.std.specs.Prelude.{◌≡◌, ◌≤◌, [], false, map};
 ghost use Rattle.std.specs.String.{string_bytes};
-ghost use Rattle.node_runner.specs.Feeding.{feed_of, KeepsFeed};
-ghost use Rattle.node_runner.specs.Lines.{nothing_buffered};
-ghost use Rattle.node_runner.specs.Session.{fresh, ShowsWhatWasPut};
+ghost use Rattle.script_lines.specs.Feeding.{feed_of, KeepsFeed};
+ghost use Rattle.script_lines.specs.Lines.{nothing_buffered};
+ghost use Rattle.node_runner.specs.Session.{fresh, handed_out, ShowsWhatWasPut};
 ghost use Rattle.node_runner.specs.Run.{are_right_words, is_usage, Runs};
 ghost use Rattle.node_runner.specs.Progress.{Stops, HasMore, RunsLines, KeepsCounts, Closes};
 
 use crate::ending::Ending;
-use crate::feed::Feed;
+use crate::kept::Kept;
 use crate::line_run::run_line;
-use crate::store::Store;
+use crate::session::Session;
 use disk_base::{Sink, Source};
+use script_lines::Feed;
 use std::alloc::Global;
 
 /// The most lines of a script.
 const MOST_LINES: u64 = 1_000_000;
 
-/// How a run ended, and how far it came.
-#[derive(Clone, Copy, Debug, PartialEq, Eq)]
+/// How a run ended, how far it came, and what its commands did.
+#[derive(Drop)]
 pub struct Outcome {
     /// 0 to 5, as `run` says.
     pub status: u8,
     /// How many lines ran whole, blank lines and comments counted.
     pub lines: u64,
+    /// The session of the commands that were begun.
+    pub session: Session,
 }
 
 /// Whether the words of the program are one root, which doesn't begin with `-`.
@@ -62,15 +65,16 @@ struct Ended {
 fn run_from<S: Source, K: Sink>(
     alloc: Global,
     feed: &mut Feed<S>,
-    store: &mut Store,
+    kept: &mut Kept,
     sink: &mut K,
 ) -> Ended
-    requires { (feed.old.buffer ≡ nothing_buffered) × (store.old ≡ fresh) }
+    requires { (feed.old.buffer ≡ nothing_buffered) × (kept.old.store ≡ fresh) × (kept.old.turns ≡ []) }
     ensures same_source { feed.new.source.ghost_name ≡ feed.old.source.ghost_name }
-    ensures ends { RunsLines (S.seen feed.old.source.now) (S.seen feed.new.source.now) (K.seen sink.old) (K.seen sink.new) result.ending result.lines }
+    ensures ends { RunsLines (S.seen feed.old.source.now) (S.seen feed.new.source.now) (K.seen sink.old) (K.seen sink.new)
+        result.ending result.lines (handed_out kept.new.store kept.new.turns) }
 {
     for lines in 0..MOST_LINES {
-        match run_line(alloc, feed, store, sink) {
+        match run_line(alloc, feed, kept, sink) {
             Ok(()) => {}
             Err(ending) => return Ended { lines, ending },
         }
@@ -83,14 +87,14 @@ fn run_from<S: Source, K: Sink>(
 }
 
 /// Runs all lines of a source.
-fn run_lines<S: Source, K: Sink>(alloc: Global, source: &mut S, sink: &mut K) -> Ended
-    ensures { RunsLines (S.seen source.old) (S.seen source.new) (K.seen sink.old) (K.seen sink.new) result.ending result.lines }
+fn run_lines<S: Source, K: Sink>(alloc: Global, source: &mut S, sink: &mut K) -> (Ended, Session)
+    ensures { RunsLines (S.seen source.old) (S.seen source.new) (K.seen sink.old) (K.seen sink.new) result.0.ending result.0.lines result.1 }
 {
     let mut feed = Feed::make(alloc, source);
-    let mut store = Store::make(alloc);
-    let ended = run_from(alloc, &mut feed, &mut store, sink);
+    let mut kept = Kept::make(alloc);
+    let ended = run_from(alloc, &mut feed, &mut kept, sink);
     let _source = feed.into_source();
-    ended
+    (ended, kept.into_session())
 }
 
 /// How a run ends whose lines ended so. Where they ended well, at a bad line or at a failed pull, the
@@ -122,6 +126,10 @@ fn close<K: Sink>(sink: &mut K, ending: Ending) -> Ending
 /// - 4 where the sink failed,
 /// - 5 where the allocator had no memory left.
 ///
+/// The session says of each command that was begun, in order, what it did. Its last one may be of the line behind
+/// those that ran: with status 4, where a part of that line's text was written, and with status 5, where memory
+/// ran out inside it.
+///
 /// Behind the last line the sink's `finish` is called once, for 0, 1 and 3, and its failure is 4
 /// instead. What was written is known where the source tells what it has left and the sink what it
 /// holds.
@@ -131,7 +139,7 @@ pub fn run<S: Source, K: Sink>(
     source: &mut S,
     sink: &mut K,
 ) -> Outcome
-    ensures runs { Runs (map string_bytes words.now) (S.seen source.old) (S.seen source.new) (K.seen sink.old) (K.seen sink.new) result.status result.lines }
+    ensures runs { Runs (map string_bytes words.now) (S.seen source.old) (S.seen source.new) (K.seen sink.old) (K.seen sink.new) result }
     ensures untouched { result.status ≡ 2 → (source.new ≡ source.old) × (sink.new ≡ sink.old) × (result.lines ≡ 0) }
     ensures integrity { ShowsWhatWasPut }
 {
@@ -139,12 +147,14 @@ pub fn run<S: Source, K: Sink>(
         return Outcome {
             status: Ending::Usage.status(),
             lines: 0,
+            session: Kept::make(alloc).into_session(),
         };
     }
-    let ended = run_lines(alloc, source, sink);
+    let (ended, session) = run_lines(alloc, source, sink);
     let ending = close(sink, ended.ending);
     Outcome {
         status: ending.status(),
         lines: ended.lines,
+        session,
     }
 }

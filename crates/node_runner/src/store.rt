@@ -1,11 +1,12 @@
 //! What a run keeps between its lines: the disks, the volume and the objects.
 
 ghost use Rattle.std.specs.Prelude.{◌≡◌, ◌<◌, ◌≤◌, ◌+◌, ◌^◌, ◌∷◌, ◌++◌, [], length, is_some, OnOk, OnErr, IfOk, Some, None};
-ghost use Rattle.node_runner.specs.Session.{bytes_of, size_of, largest_object, named, fresh, Answers, disks_refusal, volume_refusal, put_refusal};
+ghost use Rattle.node_runner.specs.Session.{bytes_of, size_of, largest_object, named, fresh, pasts_of, Answers, disks_refusal, volume_refusal, put_refusal};
 ghost use Rattle.node_runner.specs.declared.command.Command.TheVariants as commands;
 
 use crate::command::{Body, Command};
 use crate::reply::{LineReply, Refusal};
+use crate::session::{Past, Pasts};
 use crate::volume::Volume;
 use code_mode::{BLOB_LIMIT, Mode, Payload};
 use disk_base::NoMemory;
@@ -28,6 +29,8 @@ pub struct Store {
     alloc: Global,
     disks: Option<u32>,
     volume: Option<Volume>,
+    /// What is to be handed out of the volume. Its room is taken before the volume is made.
+    pasts: Vec<Past>,
 }
 
 impl Model for Store {
@@ -35,9 +38,11 @@ impl Model for Store {
 
     ghost Value = { State };
 
-    ghost use Rattle.node_runner.specs.StoreInside.{state_of};
+    ghost use Rattle.node_runner.specs.StoreInside.{state_of, HasPasts};
 
     ghost view = { state_of };
+
+    ghost invariant = { HasPasts };
 }
 
 /// How many bytes a put carries.
@@ -82,6 +87,7 @@ impl Store {
             alloc,
             disks: None,
             volume: None,
+            pasts: Vec::new(alloc),
         }
     }
 
@@ -159,7 +165,9 @@ impl Store {
         match self.volume_refusal(mode) {
             Some(cause) => Ok(refused(Command::Volume { mode }, cause)),
             None => {
+                self.pasts.reserve(1)?;
                 let volume = Volume::make(self.alloc, mode)?;
+                self.pasts.push_reserved(Past { vid: FIRST_VOLUME });
                 self.volume = Some(volume);
                 Ok(LineReply::Volume {
                     vid: FIRST_VOLUME,
@@ -219,5 +227,11 @@ impl Store {
             Command::Put { name, body } => self.put(name, body),
             Command::Get { name } => self.get(name),
         }
+    }
+    /// The volumes that were made. Takes no memory.
+    pub fn into_pasts(self) -> Pasts
+        ensures { result ≡ pasts_of self }
+    {
+        Pasts::from_vec(self.pasts)
     }
 }

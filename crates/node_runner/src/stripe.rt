@@ -1,6 +1,7 @@
 //! The shards of an object: made of its bytes, and read to them again.
 
 ghost use Rattle.std.specs.Prelude.{◌≡◌, ◌+◌, ◌<◌, ◌≤◌, length, set, IfOk, IfSome, OnOk, Some, None};
+ghost use Rattle.rs_code.specs.Shape.{shape};
 ghost use Rattle.rs_code.specs.Shards.{shard_at, held_count, size_of};
 ghost use Rattle.rs_code.specs.ShardValue.{rebuilt, filled};
 ghost use Rattle.code_mode.specs.Mode.{data_count, parity_count};
@@ -19,7 +20,7 @@ const CACHED_ROWS: usize = 16;
 
 /// A coder of a mode.
 pub fn coder_of(alloc: Global, mode: Mode) -> Result<Coder, NoMemory>
-    ensures { IfOk result (λ coder. coder ≡ shape_of mode) }
+    ensures { IfOk result (λ coder. shape coder ≡ shape_of mode) }
 {
     match Coder::new(alloc, mode.n() as usize, mode.m() as usize, CACHED_ROWS) {
         Ok(coder) => Ok(coder),
@@ -33,7 +34,7 @@ fn fill(coder: &mut Coder, shards: &mut Shards) -> Result<(), NoMemory>
     requires total { length shards.old ≡ coder.old.data_shards + coder.old.parity_shards }
     requires enough { coder.old.data_shards ≤ held_count shards.old }
     ensures filled { OnOk result (shards.new ≡ filled coder.old.data_shards shards.old) }
-    ensures shape { coder.new ≡ coder.old }
+    ensures shape { shape coder.new ≡ shape coder.old }
 {
     match coder.fill(shards) {
         Ok(()) => Ok(()),
@@ -49,7 +50,7 @@ fn rebuild(coder: &mut Coder, shards: &Shards, index: usize) -> Result<Bytes, No
     requires within { index < length shards.now }
     requires enough { coder.old.data_shards ≤ held_count shards.now }
     ensures rebuilt { IfOk result (λ bytes. bytes ≡ rebuilt coder.old.data_shards shards.now index) }
-    ensures shape { coder.new ≡ coder.old }
+    ensures shape { shape coder.new ≡ shape coder.old }
 {
     match coder.rebuild(shards, index) {
         Ok(bytes) => Ok(bytes),
@@ -66,11 +67,11 @@ pub fn shards_of(
     coder: &mut Coder,
     blob: &[u8],
 ) -> Result<Shards, NoMemory>
-    requires coder { coder.old ≡ shape_of mode }
+    requires coder { shape coder.old ≡ shape_of mode }
     requires size { length blob.now ≤ largest_object }
     ensures stripe { IfOk result (IsStripe mode (length blob.now)) }
     ensures blob { IfOk result (λ shards. blob_in mode (length blob.now) shards ≡ blob.now) }
-    ensures shape { coder.new ≡ coder.old }
+    ensures shape { shape coder.new ≡ shape coder.old }
 {
     any_shards_give_the_blob();
     let mut shards = cut(alloc, mode, blob)?;
@@ -87,11 +88,11 @@ fn data_shard(
     shards: &Shards,
     index: usize,
 ) -> Result<Bytes, NoMemory>
-    requires coder { coder.old ≡ shape_of mode }
+    requires coder { shape coder.old ≡ shape_of mode }
     requires stripe { IsStripe mode size shards.now }
     requires within { index < data_count mode }
     ensures shard { IfOk result (λ bytes. bytes ≡ shard_of mode (blob_in mode size shards.now) index) }
-    ensures shape { coder.new ≡ coder.old }
+    ensures shape { shape coder.new ≡ shape coder.old }
 {
     any_shards_give_the_blob();
     match shards.get(index) {
@@ -108,10 +109,10 @@ pub fn blob_of(
     size: u32,
     shards: &Shards,
 ) -> Result<Bytes, NoMemory>
-    requires coder { coder.old ≡ shape_of mode }
+    requires coder { shape coder.old ≡ shape_of mode }
     requires stripe { IsStripe mode size shards.now }
     ensures blob { IfOk result (λ bytes. bytes ≡ blob_in mode size shards.now) }
-    ensures shape { coder.new ≡ coder.old }
+    ensures shape { shape coder.new ≡ shape coder.old }
 {
     any_shards_give_the_blob();
     let mut found = Shards::make(alloc, mode.total() as usize);

@@ -1,6 +1,9 @@
 pub mod Places
 pub mod Held
 pub mod Weights
+pub mod Missing
+pub mod Kept
+pub mod Fitting
 pub mod Filled
 pub mod Polynomials
 pub mod Lagrange

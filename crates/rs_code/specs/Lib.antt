@@ -1,3 +1,4 @@
 pub mod Shards
 pub mod ShardValue
+pub mod RowCache
 pub mod Shape

@@ -1,6 +1,6 @@
 -- The shards of a set as values of polynomials over the field: at each byte position the shard of index
 -- r is the value at r of the only polynomial of degree below n through n points.
-use Rattle.std.specs.Prelude.{◌≡◌, ℕ, ◌<◌, ◌==◌, if◌then◌else◌, List, [], ◌∷◌, length, get_or, take, map, bit_xor, Option, Some, None, unwrap_or, All, AllPairs, ◌≢◌, is_some, IfSome}
+use Rattle.std.specs.Prelude.{◌≡◌, ℕ, ◌<◌, ◌==◌, if◌then◌else◌, List, [], ◌∷◌, length, get_or, take, map, bit_xor, Option, Some, unwrap_or, All, AllPairs, ◌≢◌, IfSome}
 use Rattle.std.specs.List.{range_with_len}
 use Rattle.gf256.specs.Field.{product, inverse_of}
 use Rattle.rs_code.specs.Shards.{shard_at, held, size_of}
@@ -33,6 +33,10 @@ abbrev pub weight : List ℕ → ℕ → ℕ → ℕ
 weight [] x r = 1
 weight (z ∷ places) x r = if z == x then weight places x r else product (quotient (bit_xor r z) (bit_xor x z)) (weight places x r)
 
+-- the weights of all places, in their order
+abbrev pub weights : List ℕ → ℕ → List ℕ
+weights places r = map (λ x. weight places x r) places
+
 -- the sum over the points of their values, each times its weight among the places
 abbrev pub weighted_sum : List ℕ → List (ℕ × ℕ) → ℕ → ℕ
 weighted_sum places [] r = 0
@@ -54,10 +58,6 @@ points_of shards position indexes = map (λ x. (x, byte_at (shard_at shards x) p
 -- at each position, the value at r of the polynomial through the points of some indexes there
 abbrev pub row_through : List (Option (List ℕ)) → List ℕ → ℕ → List ℕ
 row_through shards indexes r = map (λ position. value_at (points_of shards position indexes) r) (range_with_len 0 (unwrap_or (size_of shards) 0))
-
--- that row where index k isn't held
-abbrev pub missing_at : List (Option (List ℕ)) → List ℕ → ℕ → Option (List ℕ)
-missing_at shards indexes k = if is_some (shard_at shards k) then None else Some (row_through shards indexes k)
 
 -- the shard of index r by the n least held ones
 unfoldable pub rebuilt : ℕ → List (Option (List ℕ)) → ℕ → List ℕ

@@ -1,6 +1,6 @@
 -- A set of shards is a list with a place for each index below its total. A place has the shard's bytes,
 -- or None where the shard isn't held.
-use Rattle.std.specs.Prelude.{◌≡◌, ℕ, ◌+◌, ◌-◌, List, [], ◌∷◌, ◌++◌, length, get_or, replicate, is_some, count_by, Option, Some, None, IfSome, if◌then◌else◌, All, ◌⊎◌, ◌<◌}
+use Rattle.std.specs.Prelude.{◌≡◌, ℕ, ◌+◌, ◌-◌, List, [], ◌∷◌, ◌++◌, length, get_or, map, replicate, is_some, count_by, Option, Some, None, IfSome, unwrap_or, if◌then◌else◌, All, ◌⊎◌, ◌<◌}
 
 -- the shard of index k
 abbrev pub shard_at : List (Option (List ℕ)) → ℕ → Option (List ℕ)
@@ -19,6 +19,24 @@ held_from k (Some _ ∷ shards) = k ∷ held_from (k + 1) shards
 -- the indexes that are held, ascending
 abbrev pub held : List (Option (List ℕ)) → List ℕ
 held shards = held_from 0 shards
+
+-- the indexes that aren't held, ascending, where the first place has index k
+abbrev pub missing_from : ℕ → List (Option (List ℕ)) → List ℕ
+missing_from k [] = []
+missing_from k (None ∷ shards) = k ∷ missing_from (k + 1) shards
+missing_from k (Some _ ∷ shards) = missing_from (k + 1) shards
+
+-- the indexes that aren't held, ascending
+abbrev pub missing : List (Option (List ℕ)) → List ℕ
+missing shards = missing_from 0 shards
+
+-- the bytes of the shards of some indexes
+abbrev pub bytes_of : List (Option (List ℕ)) → List ℕ → List (List ℕ)
+bytes_of shards indexes = map (λ x. unwrap_or (shard_at shards x) []) indexes
+
+-- a row where index k isn't held
+abbrev pub spread_at : List (Option (List ℕ)) → (ℕ → List ℕ) → ℕ → Option (List ℕ)
+spread_at shards row_of k = if is_some (shard_at shards k) then None else Some (row_of k)
 
 -- how long the first held shard is
 abbrev pub size_of : List (Option (List ℕ)) → Option ℕ

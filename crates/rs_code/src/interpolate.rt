@@ -1,37 +1,21 @@
-//! The value of the polynomial through some points, as Lagrange's sum, for whole rows of bytes at once.
+//! The shards that the least held ones give: weights as factors, held shards as sources, and their sums.
 
-ghost use Rattle.std.specs.Prelude.{◌≡◌, ℕ, ◌<◌, ◌≤◌, length, take, map, slice_index, IsSome, IfOk};
+ghost use Rattle.std.specs.Prelude.{◌≡◌, ℕ, ◌<◌, ◌≤◌, List, ◌∷◌, length, take, map, slice_index, IsSome, IfOk};
+ghost use Rattle.std.specs.Vec.Iter.{into_iter_items};
 ghost use Rattle.std.specs.List.{range_with_len};
-ghost use Rattle.rs_code.specs.Shards.{shard_at, held};
-ghost use Rattle.rs_code.specs.ShardValue.{quotient, weight, row_through, missing_at};
+ghost use Rattle.gf256.specs.Rows.{contents};
+ghost use Rattle.rs_code.specs.Shards.{shard_at, held, missing, bytes_of, spread_at};
+ghost use Rattle.rs_code.specs.ShardValue.{weights};
+ghost use Rattle.rs_code.specs.RowCache.{AllFit};
+ghost use Rattle.rs_code.specs.Shape.{AreWeights};
 
-use crate::Shards;
-use gf256::{inverse, mul, scale_add};
+use crate::weighing::WeightMaker;
+use crate::{RowCache, Shards};
+use disk_base::NoMemory;
+use gf256::FactorRow;
 use std::alloc::{AllocError, Global};
+use std::vec::IntoIter;
 use unit_id::Bytes;
-
-/// `a` divided by `b`; 0 where `b` is 0.
-fn divided(a: u8, b: u8) -> u8
-    ensures { result ≡ quotient a b }
-{
-    match inverse(b) {
-        Some(inverse) => mul(a, inverse),
-        None => 0,
-    }
-}
-
-/// What the value at `x` counts in the value at `r`.
-fn weight_of(places: &[u8], x: u8, r: u8) -> u8
-    ensures { result ≡ weight places.now x r }
-{
-    let mut product = 1;
-    for z in places {
-        if *z != x {
-            product = mul(product, divided(r ^ *z, x ^ *z));
-        }
-    }
-    product
-}
 
 /// The least indexes that are held, at most `n`.
 pub fn least_held(
@@ -53,56 +37,78 @@ pub fn least_held(
     Ok(places)
 }
 
-/// The row of index `r`: at each position the value at `r` of the polynomial through the bytes there
-/// of the shards of `places`.
-pub fn row_at(alloc: Global, shards: &Shards, places: &[u8], r: u8) -> Result<Vec<u8>, AllocError>
+/// The bytes of the shards of some places, all of which are held.
+pub fn sources_of<'a>(
+    alloc: Global,
+    shards: &'a Shards,
+    places: &[u8],
+) -> Result<Vec<&'a [u8]>, AllocError>
     requires { (i : ℕ) → i < length places.now → IsSome (shard_at shards.now (slice_index places.now i)) }
-    ensures { IfOk result (λ row. row.items ≡ row_through shards.now places.now r) }
+    ensures { IfOk result (λ sources. contents sources.items ≡ bytes_of shards.now places.now) }
 {
-    let size = shards.size().unwrap_or(0);
-    let mut row = vec![in alloc; 0u8; size]?;
+    let mut sources = Vec::with_capacity(alloc, places.len())?;
     for x in places {
-        if let Some(bytes) = shards.get(usize::from(*x)) {
-            scale_add(&mut row, weight_of(places, *x, r), bytes);
+        let Some(bytes) = shards.get(usize::from(*x)) else {
+            unreachable!()
+        };
+        sources.push(bytes)?;
+    }
+    Ok(sources)
+}
+
+/// For each index that isn't held, ascending, its row of weights, as one that is kept or made.
+pub fn missing_weights(
+    alloc: Global,
+    kept: &mut RowCache,
+    maker: &mut WeightMaker,
+    shards: &Shards,
+    total: usize,
+    places: &[u8],
+) -> Result<Vec<FactorRow>, NoMemory>
+    requires total { length shards.now ≡ total }
+    requires bytes { total ≤ 256 }
+    requires fit { AllFit AreWeights kept.old.entries }
+    ensures rows { IfOk result (λ rows. rows.items ≡ map (weights places.now) (missing shards.now)) }
+    ensures fit { AllFit AreWeights kept.new.entries }
+{
+    let mut rows = Vec::new(alloc);
+    for k in 0..total {
+        if !shards.holds(k) {
+            let row = kept.row(maker, places, k as u8)?;
+            rows.push(FactorRow::make(alloc, row.as_slice())?)?;
         }
     }
-    Ok(row)
+    Ok(rows)
 }
 
-/// The row of an index that isn't held, and None where it is.
-fn missing_row(
-    alloc: Global,
-    shards: &Shards,
-    places: &[u8],
-    k: usize,
-) -> Result<Option<Bytes>, AllocError>
-    requires held { (i : ℕ) → i < length places.now → IsSome (shard_at shards.now (slice_index places.now i)) }
-    requires byte { k < 256 }
-    ensures { IfOk result (λ row. row ≡ missing_at shards.now places.now k) }
+/// The next of some outputs.
+fn next_of(left: &mut IntoIter<Vec<u8>>) -> Option<Bytes>
+    ensures { (first : List ℕ) (more : List (List ℕ)) → map (λ output. output.items) (into_iter_items left.old) ≡ first ∷ more → (result ≡ Some first) × (map (λ output. output.items) (into_iter_items left.new) ≡ more) }
 {
-    if shards.holds(k) {
-        return Ok(None);
+    match left.next() {
+        Some(output) => Some(Bytes::from_vec(output)),
+        None => None,
     }
-    let row = row_at(alloc, shards, places, k as u8)?;
-    Ok(Some(Bytes::from_vec(row)))
 }
 
-/// At each index the shard that isn't held, by the `n` least held ones, and None where it is held.
-pub fn missing_rows(
+/// At each index that isn't held the next of some outputs, and None where it is held.
+pub fn spread(
     alloc: Global,
     shards: &Shards,
     total: usize,
-    n: usize,
+    outputs: Vec<Vec<u8>>,
 ) -> Result<Vec<Option<Bytes>>, AllocError>
-    requires total { length shards.now ≡ total }
-    requires bytes { total ≤ 256 }
-    ensures { IfOk result (λ rows. rows.items ≡ map (missing_at shards.now (take n (held shards.now))) (range_with_len 0 total)) }
+    requires { length shards.now ≡ total }
+    ensures { IfOk result (λ rows. (row_of : ℕ → List ℕ) → map (λ output. output.items) outputs.items ≡ map row_of (missing shards.now) → rows.items ≡ map (spread_at shards.now row_of) (range_with_len 0 total)) }
 {
-    let places = least_held(alloc, shards, total, n)?;
-    let mut rows = Vec::new(alloc);
+    let mut left = outputs.into_iter();
+    let mut rows = Vec::with_capacity(alloc, total)?;
     for k in 0..total {
-        let row = missing_row(alloc, shards, &places, k)?;
-        rows.push(row)?;
+        if shards.holds(k) {
+            rows.push(None)?;
+        } else {
+            rows.push(next_of(&mut left))?;
+        }
     }
     Ok(rows)
 }

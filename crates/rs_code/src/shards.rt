@@ -168,7 +168,8 @@ impl Shards {
 
     /// How long the held shards are, and None where none is held.
     pub(crate) fn size(&self) -> Option<usize>
-        ensures { result ≡ size_of self.now }
+        ensures value { result ≡ size_of self.now }
+        ensures even { AreEven self.now }
     {
         for row in &self.rows {
             if let Some(bytes) = row {

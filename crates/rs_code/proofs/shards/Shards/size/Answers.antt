@@ -4,8 +4,8 @@ use Rattle.rs_code.specs.Shards.{size_of}
 use Rattle.rs_code.proofs.Places.{size_of-padded}
 use Rattle.rs_code.proofs.shards.Shards.size.Goals as goal
 
-pub returns : goal.returns
-returns c =
+pub returns-clause-value : goal.returns-clause-value
+returns-clause-value c =
     sym (ap size_of (drop_all c.loop-row.row-index c.deref-row-items.result.now (omega arith)))
     ∙ c.loop-row.invariant
     ∙ ap size_of c.deref-row-items.ensures.value

@@ -1,6 +1,0 @@
-use Rattle.std.proofs.Common.{◌≡◌, ℕ, ◌<◌, false, get_or}
-use Rattle.node_runner.specs.Lines.{is_line_feed}
-use Rattle.node_runner.proofs.feed.line_end.Given as goal
-
-abbrev pub invariant-loop-at : goal.invariant-loop-at
-invariant-loop-at l = (k : ℕ) → k < l.at → is_line_feed (get_or l.bytes k 0) ≡ false

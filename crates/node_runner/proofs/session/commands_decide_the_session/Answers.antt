@@ -1,5 +1,0 @@
-use Rattle.node_runner.proofs.SessionOne.{commands_decide}
-use Rattle.node_runner.proofs.session.commands_decide_the_session.Goals as goal
-
-pub returns : goal.returns
-returns c = commands_decide
