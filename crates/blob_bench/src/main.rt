@@ -3,11 +3,15 @@
 //! `blob_bench MEASURE SIZE ROUNDS` runs a measure that many rounds over that many bytes, and prints
 //! the sum of its results and the bytes a second. Without words each measure runs over a set size and
 //! only the sums are printed, which are the same on every machine. Measures: `crc`, `copy`, `chunk`,
-//! `chunk-start`, and `turn`, for which SIZE is the turns of each thread and ROUNDS the number of threads.
+//! `chunk-start`, `turn`, for which SIZE is the turns of each thread and ROUNDS the number of threads, and
+//! `admin` and `admin-at`, for which SIZE is the number of names, and `code`, which prints the least
+//! nanoseconds of ROUNDS calls over shards of SIZE bytes for each job.
 #![tactic(auto)]
 
+mod code;
 mod data;
 mod measure;
+mod names;
 mod turns;
 
 use anyhow::{Context, Result, bail};
@@ -26,9 +30,12 @@ fn main(rt: HostRuntime) -> Result<()> {
     let (Some(size), Some(rounds), None) = (words.next(), words.next(), words.next()) else {
         bail!("usage: blob_bench [MEASURE SIZE ROUNDS]");
     };
-    let measure = Measure::read_name(name.as_str()).context("no such measure")?;
     let size = size.as_str().parse().context("SIZE is a number")?;
     let rounds = rounds.as_str().parse().context("ROUNDS is a number")?;
+    if name.as_str() == "code" {
+        return code::print_speeds(&rt, rt.alloc(), size, rounds);
+    }
+    let measure = Measure::read_name(name.as_str()).context("no such measure")?;
     print_speed(&rt, rt.alloc(), measure, size, rounds)
 }
 
@@ -39,6 +46,7 @@ fn print_sums<R: Threads + Wait + Sync + Clock + Print>(rt: &R, alloc: Global) -
         let outcome = measure.run(rt, alloc, size, rounds)?;
         println!(rt; "{} {:016x}", measure.name(), outcome.sum)?;
     }
+    println!(rt; "code {:016x}", code::sum_of_set(alloc, 1_000)?)?;
     Ok(())
 }
 

@@ -1,6 +1,7 @@
 //! What can be measured.
 
 use crate::data;
+use crate::names::{find_places, turn_over};
 use crate::turns::count_steps;
 use anyhow::{Result, bail};
 use chunk_store::Chunk;
@@ -29,6 +30,10 @@ pub enum Measure {
     ChunkStart,
     /// Turns of threads.
     Turn,
+    /// Names that are entered, looked up and taken out.
+    Admin,
+    /// The names at each place in order of put.
+    AdminAt,
 }
 
 /// What a run of a measure gave: a sum of its results, and the time that it took.
@@ -39,12 +44,14 @@ pub struct Outcome {
 }
 
 impl Measure {
-    pub const ALL: [Measure; 5] = [
+    pub const ALL: [Measure; 7] = [
         Measure::Crc,
         Measure::Copy,
         Measure::Chunk,
         Measure::ChunkStart,
         Measure::Turn,
+        Measure::Admin,
+        Measure::AdminAt,
     ];
 
     /// The measure of this name.
@@ -55,6 +62,8 @@ impl Measure {
             "chunk" => Some(Measure::Chunk),
             "chunk-start" => Some(Measure::ChunkStart),
             "turn" => Some(Measure::Turn),
+            "admin" => Some(Measure::Admin),
+            "admin-at" => Some(Measure::AdminAt),
             _ => None,
         }
     }
@@ -67,6 +76,8 @@ impl Measure {
             Measure::Chunk => "chunk",
             Measure::ChunkStart => "chunk-start",
             Measure::Turn => "turn",
+            Measure::Admin => "admin",
+            Measure::AdminAt => "admin-at",
         }
     }
 
@@ -74,6 +85,7 @@ impl Measure {
     pub fn unit(self) -> &'static str {
         match self {
             Measure::Turn => "turns",
+            Measure::Admin | Measure::AdminAt => "names",
             _ => "bytes",
         }
     }
@@ -82,11 +94,12 @@ impl Measure {
     pub fn set_run(self) -> (usize, u32) {
         match self {
             Measure::Turn => (1_000, 4),
+            Measure::Admin | Measure::AdminAt => (1_000, 8),
             _ => (65_536, 8),
         }
     }
 
-    /// Runs the measure `rounds` times over `size` made bytes; of turns, in `rounds` threads, `size` turns each.
+    /// Runs the measure `rounds` times over `size` made bytes or names; of turns, in `rounds` threads, `size` turns each.
     pub fn run<R: Threads + Wait + Sync + Clock>(
         self,
         rt: &R,
@@ -96,6 +109,14 @@ impl Measure {
     ) -> Result<Outcome> {
         match self {
             Measure::Turn => time_turns(rt, alloc, size, rounds),
+            Measure::Admin => {
+                let (sum, taken) = turn_over(rt, alloc, size, rounds)?;
+                Ok(Outcome { sum, taken })
+            }
+            Measure::AdminAt => {
+                let (sum, taken) = find_places(rt, alloc, size, rounds)?;
+                Ok(Outcome { sum, taken })
+            }
             _ => self.time_bytes(rt, alloc, size, rounds),
         }
     }

@@ -1,6 +1,7 @@
 pub mod Rows
 pub mod Draws
 pub mod NameLemmas
+pub mod NameBlocks
 pub mod Sweeps
 pub mod Slots
 pub mod Locations

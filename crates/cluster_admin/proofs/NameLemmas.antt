@@ -6,14 +6,14 @@ use Rattle.std.specs.Map.{lookup, remove_entry}
 use Rattle.cluster_admin.specs.declared.names.Object.{Object}
 use Rattle.cluster_admin.specs.Names.{seen}
 
-module _ (name : List ℕ) where
+module _ {X : Type 0} (name : List ℕ) where
   -- a look-up by name
-  pub lookup_seen : (entries : List (Vec ℕ Global × Object)) → lookup (bytes_eq name) (map seen entries) ≡ lookup (λ key. bytes_eq name key.items) entries
+  pub lookup_seen : (entries : List (Vec ℕ Global × X)) → lookup (bytes_eq name) (map seen entries) ≡ lookup (λ key. bytes_eq name key.items) entries
   lookup_seen [] = refl
   lookup_seen (entry ∷ entries) = ap (cond (bytes_eq name entry.0.items) (Some entry.1)) (lookup_seen entries)
 
   -- a name taken out
-  pub remove_seen : (entries : List (Vec ℕ Global × Object)) → remove_entry (bytes_eq name) (map seen entries) ≡ map seen (remove_entry (λ key. bytes_eq name key.items) entries)
+  pub remove_seen : (entries : List (Vec ℕ Global × X)) → remove_entry (bytes_eq name) (map seen entries) ≡ map seen (remove_entry (λ key. bytes_eq name key.items) entries)
   remove_seen [] = refl
   remove_seen (entry ∷ entries) = go (bytes_eq name entry.0.items) (remove_seen entries) where
     go : (test : Bool) → remove_entry (bytes_eq name) (map seen entries) ≡ map seen (remove_entry (λ key. bytes_eq name key.items) entries)

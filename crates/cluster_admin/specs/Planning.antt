@@ -85,6 +85,18 @@ module _ (disks : List Disk) (tasks : List Planned) (kind : Kind) (reach : Reach
 abbrev pub new_tasks : State → Kind → Reach → List Planned
 new_tasks state kind reach = tasks_from state.disks state.tasks kind reach 1 (state.planned + 1) state.volumes
 
+-- one for each unit on a disk that drains
+abbrev pub drop_tasks : State → ℕ → List Planned
+drop_tasks state disk = new_tasks state kinds.Drop (reaching.OnDisk disk)
+
+-- one for each unit on a disk that is repaired
+abbrev pub repair_tasks : State → ℕ → List Planned
+repair_tasks state disk = new_tasks state kinds.Repair (reaching.OnDisk disk)
+
+-- those for the units on all broken disks, as many units at once as their volume may lack
+abbrev pub repair_all_tasks : State → List Planned
+repair_all_tasks state = new_tasks state kinds.Repair reaching.OnBroken
+
 -- more tasks than there are numbers
 abbrev pub limit_fault : State → List Planned → Option AdminFault
 limit_fault state new = if nat_lt most_tasks (state.planned + length new) then Some faults.LimitTasks else None
@@ -106,21 +118,21 @@ with_tasks state new = record state { planned = state.planned + length new; task
 
 abbrev pub drop_fault : State → ℕ → Option AdminFault
 drop_fault state disk =
-    or_else (state_fault is_normal (disk_at state.disks disk)) (limit_fault state (new_tasks state kinds.Drop (reaching.OnDisk disk)))
+    or_else (state_fault is_normal (disk_at state.disks disk)) (limit_fault state (drop_tasks state disk))
 
 -- a disk drains, and its units have tasks
 abbrev pub with_drop : State → ℕ → State
 with_drop state disk =
-    record (with_tasks state (new_tasks state kinds.Drop (reaching.OnDisk disk))) { disks = slice_set state.disks (disk - 1) (record { state = states.Normal; drains = true }) }
+    record (with_tasks state (drop_tasks state disk)) { disks = slice_set state.disks (disk - 1) (record { state = states.Normal; drains = true }) }
 
 abbrev pub repair_fault : State → ℕ → Option AdminFault
 repair_fault state disk =
-    or_else (state_fault is_broken (disk_at state.disks disk)) (limit_fault state (new_tasks state kinds.Repair (reaching.OnDisk disk)))
+    or_else (state_fault is_broken (disk_at state.disks disk)) (limit_fault state (repair_tasks state disk))
 
 -- a disk is repairing, and its units have tasks
 abbrev pub with_repair : State → ℕ → State
 with_repair state disk =
-    record (with_tasks state (new_tasks state kinds.Repair (reaching.OnDisk disk))) { disks = slice_set state.disks (disk - 1) (record { state = states.Repairing; drains = false }) }
+    record (with_tasks state (repair_tasks state disk)) { disks = slice_set state.disks (disk - 1) (record { state = states.Repairing; drains = false }) }
 
 -- a disk that is broken is repairing
 abbrev pub repaired_disk : Disk → Disk
@@ -129,12 +141,12 @@ repaired_disk disk = if is_broken disk.state then record { state = states.Repair
 abbrev pub repair_all_fault : State → Option AdminFault
 repair_all_fault state =
     or_else (if list_any (λ disk. is_broken disk.state) state.disks then None else Some faults.NoTarget)
-    (limit_fault state (new_tasks state kinds.Repair reaching.OnBroken))
+    (limit_fault state (repair_all_tasks state))
 
 -- all broken disks are repairing, and their units have tasks of as many units as a volume may lack
 abbrev pub with_repair_all : State → State
 with_repair_all state =
-    record (with_tasks state (new_tasks state kinds.Repair reaching.OnBroken)) { disks = map repaired_disk state.disks }
+    record (with_tasks state (repair_all_tasks state)) { disks = map repaired_disk state.disks }
 
 -- a task, or else another
 abbrev pub or_task : Option ℕ → Option ℕ → Option ℕ

@@ -6,7 +6,7 @@ ghost use Rattle.std.specs.Str.{bytes_eq};
 ghost use Rattle.cluster_admin.specs.Placing.{IsAfter};
 ghost use Rattle.cluster_admin.specs.Disks.{new_disk, disk_at};
 ghost use Rattle.cluster_admin.specs.Cluster.{fresh};
-ghost use Rattle.cluster_admin.specs.Inside.{state_of};
+ghost use Rattle.cluster_admin.specs.Inside.{state_of, placer_of, waiting_of};
 ghost use Rattle.cluster_admin.specs.Refusals.{IsRefused, IsRefusedExactly, set_disks_fault, use_placer_fault, break_fault, add_name_fault};
 
 use crate::disks::{Disk, DiskState, Disks, disk_at};
@@ -57,8 +57,8 @@ impl Admin {
     pub fn make(alloc: Global, placers: Vec<Box<dyn Placer>>) -> Result<Admin, AdminFault>
         requires { 0 < length placers.items }
         ensures fresh { IfOk result (λ admin. state_of admin ≡ fresh (length placers.items)) }
-        ensures in_use { IfOk result (λ admin. slice_get placers.items 0 ≡ Some admin.in_use) }
-        ensures waiting { IfOk result (λ admin. admin.waiting.items ≡ None ∷ map Some (remove placers.items 0)) }
+        ensures in_use { IfOk result (λ admin. slice_get placers.items 0 ≡ Some (placer_of admin)) }
+        ensures waiting { IfOk result (λ admin. waiting_of admin ≡ None ∷ map Some (remove placers.items 0)) }
         ensures err { IfErr result (λ fault. fault ≡ AdminFault.Memory) }
     {
         let volumes = Volumes::none(alloc)?;
@@ -99,7 +99,7 @@ impl Admin {
         ensures fault { IsRefused (set_disks_fault (state_of self.old) count) result }
         ensures ok { OnOk result (state_of self.new ≡ record (state_of self.old) { disks = replicate count new_disk }) }
         ensures err { OnErr result (state_of self.new ≡ state_of self.old) }
-        ensures placer { self.new.in_use ≡ self.old.in_use }
+        ensures placer { placer_of self.new ≡ placer_of self.old }
     {
         if let Some(fault) = self.set_disks_fault(count) {
             return Err(fault);
@@ -114,10 +114,10 @@ impl Admin {
     /// `NoPlacer` where there is none of that number, `PlacerUsed` where it is or was in use.
     pub fn use_placer(&mut self, number: u32) -> Result<(), AdminFault>
         ensures fault { IsRefusedExactly (use_placer_fault (state_of self.old) number) result }
-        ensures taken { OnOk result (slice_get self.old.waiting.items (number - 1) ≡ Some (Some self.new.in_use)) }
-        ensures others { OnOk result (self.new.waiting.items ≡ slice_set self.old.waiting.items (number - 1) None) }
+        ensures taken { OnOk result (slice_get (waiting_of self.old) (number - 1) ≡ Some (Some (placer_of self.new))) }
+        ensures others { OnOk result (waiting_of self.new ≡ slice_set (waiting_of self.old) (number - 1) None) }
         ensures ok { OnOk result (state_of self.new ≡ record (state_of self.old) { waiting = slice_set (state_of self.old).waiting (number - 1) false }) }
-        ensures err { OnErr result ((self.new.waiting.items ≡ self.old.waiting.items) × (self.new.in_use ≡ self.old.in_use) × (state_of self.new ≡ state_of self.old)) }
+        ensures err { OnErr result ((waiting_of self.new ≡ waiting_of self.old) × (placer_of self.new ≡ placer_of self.old) × (state_of self.new ≡ state_of self.old)) }
     {
         if number == 0 || number as usize > self.waiting.len() {
             return Err(AdminFault::NoPlacer);
@@ -155,7 +155,7 @@ impl Admin {
           disks = slice_set (state_of self.old).disks (disk - 1) (record { state = DiskState.Broken; drains = false });
         }) }
         ensures err { OnErr result (state_of self.new ≡ state_of self.old) }
-        ensures placer { self.new.in_use ≡ self.old.in_use }
+        ensures placer { placer_of self.new ≡ placer_of self.old }
     {
         let Some(found) = disk_at(self.disks.as_slice(), disk) else {
             return Err(AdminFault::NoTarget);
@@ -197,7 +197,8 @@ impl Admin {
         }
     }
 
-    /// Enters a name, of 1 to 64 bytes, behind all others.
+    /// Enters a name, of 1 to 64 bytes, behind all others. Names are packed anew once after at least
+    /// 160,000 puts, so that on average a put takes as much time among many names as among few.
     ///
     /// # Errors
     /// As `may_add_name`.
@@ -205,7 +206,7 @@ impl Admin {
         ensures fault { IsRefused (add_name_fault (state_of self.old) name.now) result }
         ensures ok { OnOk result (state_of self.new ≡ record (state_of self.old) { names = (state_of self.old).names ++ (name.now, at) ∷ [] }) }
         ensures err { OnErr result (state_of self.new ≡ state_of self.old) }
-        ensures placer { self.new.in_use ≡ self.old.in_use }
+        ensures placer { placer_of self.new ≡ placer_of self.old }
     {
         if let Some(fault) = self.add_name_fault(name) {
             return Err(fault);
@@ -228,8 +229,8 @@ impl Admin {
         }
     }
 
-    /// Takes a name out, and answers its object. Takes no memory. The time grows with the number of
-    /// names that were put after it, since they all move up by a place.
+    /// Takes a name out, and answers its object. Takes no memory, and as much time among many names as
+    /// among few: at most 255 names move.
     ///
     /// # Errors
     /// `NoName` where the name isn't held.
@@ -238,7 +239,7 @@ impl Admin {
         ensures gone { OnOk result (state_of self.new ≡ record (state_of self.old) { names = remove_entry (bytes_eq name.now) (state_of self.old).names }) }
         ensures err { IfErr result (λ fault. (fault ≡ AdminFault.NoName) × (lookup (bytes_eq name.now) (state_of self.old).names ≡ None)) }
         ensures same { OnErr result (state_of self.new ≡ state_of self.old) }
-        ensures placer { self.new.in_use ≡ self.old.in_use }
+        ensures placer { placer_of self.new ≡ placer_of self.old }
     {
         if self.names.get(name.as_bytes()).is_none() {
             return Err(AdminFault::NoName);
@@ -250,7 +251,7 @@ impl Admin {
     }
 
     /// The name at a place in order of put, counted from 0, and its object; none where no more names
-    /// are held. Fails only for want of memory.
+    /// are held. It passes at most 1,024 blocks of names on its way. Fails only for want of memory.
     pub fn name_at(&self, place: u64) -> Result<Option<(Bytes, Object)>, AdminFault>
         ensures ok { IfOk result (λ found. found ≡ slice_get (state_of self.now).names place) }
         ensures err { IfErr result (λ fault. fault ≡ AdminFault.Memory) }

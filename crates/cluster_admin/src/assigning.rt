@@ -5,7 +5,7 @@ ghost use Rattle.std.specs.List.{list_any};
 ghost use Rattle.cluster_admin.specs.Placing.{Plan, IsAfter};
 ghost use Rattle.cluster_admin.specs.Drawing.{AssignAnswers, aimed_at, aimed_first, answer_of, needy, set_target, target_count, task_of};
 ghost use Rattle.cluster_admin.specs.Plans.{is_unfinished, place_of};
-ghost use Rattle.cluster_admin.specs.Inside.{state_of};
+ghost use Rattle.cluster_admin.specs.Inside.{state_of, placer_of};
 
 use crate::admin::Admin;
 use crate::choosing::{choose, homes_of, stays};
@@ -136,7 +136,7 @@ impl Admin {
     /// `NoDisk` where a target has no option. It has disk 0 then, and all others have theirs.
     pub fn assign(&mut self, task: u64) -> Result<Task, AdminFault>
         requires { is_unfinished (state_of self.old).tasks task ≡ true }
-        ensures { AssignAnswers (plan self.old.in_use) (state_of self.old) task result (state_of self.new) (plan self.new.in_use) }
+        ensures { AssignAnswers (plan (placer_of self.old)) (state_of self.old) task result (state_of self.new) (plan (placer_of self.new)) }
     {
         let copy = Vec::with_capacity(self.alloc, MOST_TARGETS)?;
         let place = place_of(&self.tasks, task);

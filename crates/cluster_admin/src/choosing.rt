@@ -4,7 +4,7 @@ ghost use Rattle.std.specs.Prelude.{◌≡◌, ◌<◌, ◌≤◌, ◌-◌, ◌+
 ghost use Rattle.unit_id.specs.declared.homes.Home.{Home};
 ghost use Rattle.cluster_admin.specs.Placing.{Plan, IsAfter};
 ghost use Rattle.cluster_admin.specs.Drawing.{choice, shown_after, drawn, drawn_for, new_homes, with_volume, stays, homes_of};
-ghost use Rattle.cluster_admin.specs.Inside.{state_of};
+ghost use Rattle.cluster_admin.specs.Inside.{state_of, placer_of};
 ghost use Rattle.cluster_admin.specs.Refusals.{IsRefusedExactly, new_volume_fault};
 
 use crate::admin::Admin;
@@ -127,10 +127,10 @@ impl Admin {
     pub fn new_volume(&mut self, mode: Mode) -> Result<(u32, Homes), AdminFault>
         ensures fault { IsRefusedExactly (new_volume_fault (state_of self.old) mode) result }
         ensures made { IfOk result (λ made. (made.0 ≡ length (state_of self.old).volumes + 1)
-            × (made.1 ≡ new_homes made.0 0 (drawn_for (plan self.old.in_use) (state_of self.old) mode).homes)) }
-        ensures moved { OnOk result (IsAfter (plan self.old.in_use) (drawn_for (plan self.old.in_use) (state_of self.old) mode).shown (plan self.new.in_use)) }
-        ensures ok { OnOk result (state_of self.new ≡ with_volume (state_of self.old) mode (drawn_for (plan self.old.in_use) (state_of self.old) mode).homes) }
-        ensures err { OnErr result ((state_of self.new ≡ state_of self.old) × (self.new.in_use ≡ self.old.in_use)) }
+            × (made.1 ≡ new_homes made.0 0 (drawn_for (plan (placer_of self.old)) (state_of self.old) mode).homes)) }
+        ensures moved { OnOk result (IsAfter (plan (placer_of self.old)) (drawn_for (plan (placer_of self.old)) (state_of self.old) mode).shown (plan (placer_of self.new))) }
+        ensures ok { OnOk result (state_of self.new ≡ with_volume (state_of self.old) mode (drawn_for (plan (placer_of self.old)) (state_of self.old) mode).homes) }
+        ensures err { OnErr result ((state_of self.new ≡ state_of self.old) × (placer_of self.new ≡ placer_of self.old)) }
     {
         if let Some(fault) = self.new_volume_fault(mode) {
             return Err(fault);

@@ -19,6 +19,10 @@ mod choosing;
 mod disks;
 mod fault;
 mod location;
+mod name_block;
+mod name_index;
+#[cfg(test)]
+mod name_tests;
 mod names;
 mod options;
 mod picking;

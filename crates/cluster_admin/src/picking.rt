@@ -4,7 +4,7 @@ ghost use Rattle.std.specs.Prelude.{◌≡◌, ◌<◌, ◌≤◌, ◌-◌, ◌+
 ghost use Rattle.std.specs.List.{count_by};
 ghost use Rattle.cluster_admin.specs.Picking.{can_take, candidates, fewer, fewest_from, picked, pick_fault, with_last, without_slot, without_volume, homes_after, with_moved, finish_at};
 ghost use Rattle.cluster_admin.specs.Plans.{place_of};
-ghost use Rattle.cluster_admin.specs.Inside.{state_of};
+ghost use Rattle.cluster_admin.specs.Inside.{state_of, placer_of};
 ghost use Rattle.cluster_admin.specs.Refusals.{IsRefusedExactly};
 
 use crate::admin::Admin;
@@ -155,7 +155,7 @@ impl Admin {
     /// memory.
     pub fn lose_volume(&mut self, vid: u32)
         ensures state { state_of self.new ≡ without_volume (state_of self.old) vid }
-        ensures placer { self.new.in_use ≡ self.old.in_use }
+        ensures placer { placer_of self.new ≡ placer_of self.old }
     {
         end_volume(&mut self.volumes, vid);
         end_tasks(&mut self.tasks, vid);
@@ -172,7 +172,7 @@ impl Admin {
         ensures ok { IfOk result (λ r. picked (state_of self.old).volumes views.now ≡ Some (record { vid = r.0; last = r.1 - 1 })) }
         ensures given { IfOk result (λ r. state_of self.new ≡ record (state_of self.old) { volumes = with_last (state_of self.old).volumes r.0 (r.1 - 1 + blobs) }) }
         ensures err { OnErr result (state_of self.new ≡ state_of self.old) }
-        ensures placer { self.new.in_use ≡ self.old.in_use }
+        ensures placer { placer_of self.new ≡ placer_of self.old }
     {
         let Some(best) = picked(self.volumes.as_slice(), views) else {
             return Err(AdminFault::NoVolume);
@@ -188,7 +188,7 @@ impl Admin {
     pub fn finish(&mut self, task: u64, units: &Homes)
         ensures state { state_of self.new ≡ (let place = place_of (state_of self.old).tasks task in
             finish_at (state_of self.old) place units.now (slice_get (state_of self.old).tasks place)) }
-        ensures placer { self.new.in_use ≡ self.old.in_use }
+        ensures placer { placer_of self.new ≡ placer_of self.old }
     {
         let place = place_of(&self.tasks, task);
         if place < self.tasks.len() {

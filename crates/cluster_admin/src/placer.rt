@@ -30,7 +30,10 @@ pub trait Placer: Drop {
 pub struct First {}
 
 impl First {
-    pub fn new() -> First {
+    /// It has no state.
+    pub fn new() -> First
+        ensures { ⟦<First as Placer>⟧.plan result ≡ first_plan }
+    {
         First {}
     }
 }
@@ -48,7 +51,10 @@ impl Placer for First {
 pub struct Least {}
 
 impl Least {
-    pub fn new() -> Least {
+    /// It has no state.
+    pub fn new() -> Least
+        ensures { ⟦<Least as Placer>⟧.plan result ≡ least_plan }
+    {
         Least {}
     }
 }
@@ -90,7 +96,9 @@ pub struct Turns {
 
 impl Turns {
     /// With the first turn, 0.
-    pub fn new() -> Turns {
+    pub fn new() -> Turns
+        ensures { ⟦<Turns as Placer>⟧.plan result ≡ turn_plan 0 }
+    {
         Turns { turn: 0 }
     }
 }

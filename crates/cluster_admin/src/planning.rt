@@ -1,12 +1,12 @@
 //! Tasks that move units off disks.
 
 ghost use Rattle.std.specs.Prelude.{◌≡◌, ◌<◌, ◌≤◌, ◌-◌, ◌+◌, ◌*◌, ◌^◌, not, nat_lt, ◌∷◌, ◌++◌, [], ℕ, length, map, take, drop, true, Some, None, IfOk, IfErr, OnErr, OnOk, slice_set};
-ghost use Rattle.cluster_admin.specs.Planning.{reaches, movable_from, group_size, most_moved, new_task, tasks_of, tasks_in, tasks_from, new_tasks, first_busy, limit_fault, IsRefusedOrMemory, balance_fault, drop_fault, repair_fault, repair_all_fault, with_tasks, with_balance, with_drop, with_repair, with_repair_all, repaired_disk};
+ghost use Rattle.cluster_admin.specs.Planning.{reaches, movable_from, group_size, most_moved, new_task, tasks_of, tasks_in, tasks_from, new_tasks, drop_tasks, repair_tasks, repair_all_tasks, first_busy, limit_fault, IsRefusedOrMemory, balance_fault, drop_fault, repair_fault, repair_all_fault, with_tasks, with_balance, with_drop, with_repair, with_repair_all, repaired_disk};
 ghost use Rattle.std.specs.Int.{div_ceil};
 ghost use Rattle.std.specs.List.{list_any};
 ghost use Rattle.code_mode.specs.Mode.{total_count};
 ghost use Rattle.cluster_admin.specs.Disks.{is_broken};
-ghost use Rattle.cluster_admin.specs.Inside.{state_of};
+ghost use Rattle.cluster_admin.specs.Inside.{state_of, placer_of};
 ghost use Rattle.cluster_admin.specs.Refusals.{IsRefused};
 
 use crate::admin::Admin;
@@ -269,7 +269,7 @@ impl Admin {
         ensures number { IfOk result (λ task. task ≡ (state_of self.old).planned + 1) }
         ensures ok { OnOk result (state_of self.new ≡ with_balance (state_of self.old) vid indexes.now) }
         ensures err { OnErr result (state_of self.new ≡ state_of self.old) }
-        ensures placer { self.new.in_use ≡ self.old.in_use }
+        ensures placer { placer_of self.new ≡ placer_of self.old }
     {
         if let Some(fault) = self.balance_fault(vid, indexes) {
             return Err(fault);
@@ -286,7 +286,7 @@ impl Admin {
         ensures count { IfOk result (λ count. count ≡ length (new_tasks (state_of self.old) kind reach)) }
         ensures ok { OnOk result (state_of self.new ≡ with_tasks (state_of self.old) (new_tasks (state_of self.old) kind reach)) }
         ensures err { OnErr result (state_of self.new ≡ state_of self.old) }
-        ensures placer { self.new.in_use ≡ self.old.in_use }
+        ensures placer { placer_of self.new ≡ placer_of self.old }
     {
         let mut fresh = new_tasks(
             self.alloc,
@@ -314,10 +314,10 @@ impl Admin {
     /// more than 1,000,000 tasks would have been planned.
     pub fn plan_drop(&mut self, disk: u32) -> Result<u32, AdminFault>
         ensures fault { IsRefusedOrMemory (drop_fault (state_of self.old) disk) result }
-        ensures count { IfOk result (λ count. count ≡ length (new_tasks (state_of self.old) Kind.Drop (Reach.OnDisk disk))) }
+        ensures count { IfOk result (λ count. count ≡ length (drop_tasks (state_of self.old) disk)) }
         ensures ok { OnOk result (state_of self.new ≡ with_drop (state_of self.old) disk) }
         ensures err { OnErr result (state_of self.new ≡ state_of self.old) }
-        ensures placer { self.new.in_use ≡ self.old.in_use }
+        ensures placer { placer_of self.new ≡ placer_of self.old }
     {
         let Some(found) = disk_at(self.disks.as_slice(), disk) else {
             return Err(AdminFault::NoTarget);
@@ -342,10 +342,10 @@ impl Admin {
     /// `LimitTasks` where more than 1,000,000 tasks would have been planned.
     pub fn plan_repair(&mut self, disk: u32) -> Result<u32, AdminFault>
         ensures fault { IsRefusedOrMemory (repair_fault (state_of self.old) disk) result }
-        ensures count { IfOk result (λ count. count ≡ length (new_tasks (state_of self.old) Kind.Repair (Reach.OnDisk disk))) }
+        ensures count { IfOk result (λ count. count ≡ length (repair_tasks (state_of self.old) disk)) }
         ensures ok { OnOk result (state_of self.new ≡ with_repair (state_of self.old) disk) }
         ensures err { OnErr result (state_of self.new ≡ state_of self.old) }
-        ensures placer { self.new.in_use ≡ self.old.in_use }
+        ensures placer { placer_of self.new ≡ placer_of self.old }
     {
         let Some(found) = disk_at(self.disks.as_slice(), disk) else {
             return Err(AdminFault::NoTarget);
@@ -367,10 +367,10 @@ impl Admin {
     /// would have been planned.
     pub fn plan_repair_all(&mut self) -> Result<u32, AdminFault>
         ensures fault { IsRefusedOrMemory (repair_all_fault (state_of self.old)) result }
-        ensures count { IfOk result (λ count. count ≡ length (new_tasks (state_of self.old) Kind.Repair Reach.OnBroken)) }
+        ensures count { IfOk result (λ count. count ≡ length (repair_all_tasks (state_of self.old))) }
         ensures ok { OnOk result (state_of self.new ≡ with_repair_all (state_of self.old)) }
         ensures err { OnErr result (state_of self.new ≡ state_of self.old) }
-        ensures placer { self.new.in_use ≡ self.old.in_use }
+        ensures placer { placer_of self.new ≡ placer_of self.old }
     {
         if !has_broken(self.disks.as_slice()) {
             return Err(AdminFault::NoTarget);

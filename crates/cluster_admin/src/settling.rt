@@ -2,7 +2,7 @@
 
 ghost use Rattle.std.specs.Prelude.{◌≡◌, ◌<◌, ◌≤◌, ◌-◌, ◌+◌, ◌++◌, [], ℕ, length, Some, None, IfOk, IfErr, OnErr, OnOk};
 ghost use Rattle.cluster_admin.specs.Settling.{was_given, end_of, settled_from, changes_from, disk_after};
-ghost use Rattle.cluster_admin.specs.Inside.{state_of};
+ghost use Rattle.cluster_admin.specs.Inside.{state_of, placer_of};
 
 use crate::admin::Admin;
 use crate::disks::{Disk, DiskState, Disks};
@@ -99,7 +99,7 @@ impl Admin {
         ensures changes { IfOk result (λ changes. changes.items ≡ changes_from (state_of self.old).volumes (state_of self.old).tasks 1 (state_of self.old).disks) }
         ensures ok { OnOk result (state_of self.new ≡ record (state_of self.old) { disks = settled_from (state_of self.old).volumes (state_of self.old).tasks 1 (state_of self.old).disks }) }
         ensures err { IfErr result (λ fault. (fault ≡ AdminFault.Memory) × (state_of self.new ≡ state_of self.old)) }
-        ensures placer { self.new.in_use ≡ self.old.in_use }
+        ensures placer { placer_of self.new ≡ placer_of self.old }
     {
         let changes = changes(
             self.alloc,

@@ -192,20 +192,20 @@ fn run(rt: &impl Abort, admin: &mut Admin, step: Step<'_>) {
     }
 }
 
-/// Does steps on a new store.
-fn run_all(rt: &impl Abort, alloc: Global, steps: &[Step<'_>]) -> Result<Admin, Fail> {
-    let mut admin = three_placers(alloc)?;
+/// Does steps one after the other.
+fn run_all(rt: &impl Abort, admin: &mut Admin, steps: &[Step<'_>]) {
     for step in steps {
-        run(rt, &mut admin, *step);
+        run(rt, admin, *step);
     }
-    Ok(admin)
 }
 
-#[test]
-fn placers_and_volumes(rt: HostRuntime) -> Result<(), Fail> {
-    let broken = Err(AdminFault::BadState {
-        state: DiskState::Broken,
-    });
+/// A disk that is in this state is refused.
+fn bad_state<T>(state: DiskState) -> Result<T, AdminFault> {
+    Err(AdminFault::BadState { state })
+}
+
+/// Disks that are given once, and placers that can't be taken.
+fn give_disks(rt: &impl Abort, admin: &mut Admin) {
     let steps = [
         Step::Disks(0, Err(AdminFault::LimitDisks)),
         Step::Disks(65, Err(AdminFault::LimitDisks)),
@@ -215,29 +215,51 @@ fn placers_and_volumes(rt: HostRuntime) -> Result<(), Fail> {
         Step::Placer(0, Err(AdminFault::NoPlacer)),
         Step::Placer(4, Err(AdminFault::NoPlacer)),
         Step::Placer(1, Err(AdminFault::PlacerUsed)),
+    ];
+    run_all(rt, admin, &steps);
+}
+
+/// Volumes by turns and then by the fewest units.
+fn change_placers(rt: &impl Abort, admin: &mut Admin) {
+    let steps = [
         Step::Placer(3, Ok(())),
         Step::Placer(3, Err(AdminFault::PlacerUsed)),
         Step::Placer(1, Err(AdminFault::PlacerUsed)),
         Step::Volume(Mode::Ec6P3, Ok(&[1, 3, 5, 7, 9, 2, 8, 6, 4])),
         Step::Placer(2, Ok(())),
         Step::Volume(Mode::Ec3P3, Ok(&[10, 1, 2, 3, 4, 5])),
+    ];
+    run_all(rt, admin, &steps);
+}
+
+/// A disk that breaks once, and is taken no more.
+fn break_a_disk(rt: &impl Abort, admin: &mut Admin) {
+    let steps = [
         Step::Break(11, Err(AdminFault::NoTarget)),
         Step::Break(0, Err(AdminFault::NoTarget)),
         Step::Break(10, Ok(())),
-        Step::Break(10, broken),
-        Step::Drop(
-            10,
-            Err(AdminFault::BadState {
-                state: DiskState::Broken,
-            }),
-        ),
-        Step::State(10, Ok(DiskState::Broken)),
-        Step::State(9, Ok(DiskState::Normal)),
-        Step::State(11, Err(AdminFault::NoTarget)),
-        Step::State(0, Err(AdminFault::NoTarget)),
+        Step::Break(10, bad_state(DiskState::Broken)),
+        Step::Drop(10, bad_state(DiskState::Broken)),
         Step::Volume(Mode::Ec3P3, Ok(&[6, 7, 8, 9, 1, 2])),
     ];
-    let mut admin = run_all(&rt, rt.alloc(), &steps)?;
+    run_all(rt, admin, &steps);
+}
+
+/// The states of disks.
+fn ask_for_states(rt: &impl Abort, admin: &Admin) {
+    state(rt, admin, 10, Ok(DiskState::Broken));
+    state(rt, admin, 9, Ok(DiskState::Normal));
+    state(rt, admin, 11, Err(AdminFault::NoTarget));
+    state(rt, admin, 0, Err(AdminFault::NoTarget));
+}
+
+#[test]
+fn placers_and_volumes(rt: HostRuntime) -> Result<(), Fail> {
+    let mut admin = three_placers(rt.alloc())?;
+    give_disks(&rt, &mut admin);
+    change_placers(&rt, &mut admin);
+    break_a_disk(&rt, &mut admin);
+    ask_for_states(&rt, &admin);
     for _volume in 3..64 {
         admin.new_volume(Mode::Ec3P3)?;
     }
@@ -245,20 +267,22 @@ fn placers_and_volumes(rt: HostRuntime) -> Result<(), Fail> {
     Ok(())
 }
 
-#[test]
-fn drops_and_repairs(rt: HostRuntime) -> Result<(), Fail> {
+/// Ten disks and two volumes on the first nine.
+fn two_volumes(rt: &impl Abort, admin: &mut Admin) {
     let steps = [
         Step::Disks(10, Ok(())),
         Step::Volume(Mode::Ec6P3, Ok(&[1, 2, 3, 4, 5, 6, 7, 8, 9])),
         Step::Volume(Mode::Ec6P3, Ok(&[1, 2, 3, 4, 5, 6, 7, 8, 9])),
         Step::Drop(11, Err(AdminFault::NoTarget)),
         Step::Repair(11, Err(AdminFault::NoTarget)),
-        Step::Repair(
-            1,
-            Err(AdminFault::BadState {
-                state: DiskState::Normal,
-            }),
-        ),
+        Step::Repair(1, bad_state(DiskState::Normal)),
+    ];
+    run_all(rt, admin, &steps);
+}
+
+/// The first disk drains, and is chosen no more.
+fn drop_the_first(rt: &impl Abort, admin: &mut Admin) {
+    let steps = [
         Step::Drop(1, Ok(2)),
         Step::Drop(1, Ok(0)),
         Step::State(1, Ok(DiskState::Normal)),
@@ -270,12 +294,26 @@ fn drops_and_repairs(rt: HostRuntime) -> Result<(), Fail> {
         ),
         Step::Unfinished(&[1, 2]),
         Step::Task(2, Kind::Drop, 2, &[Target { index: 0, disk: 0 }]),
+    ];
+    run_all(rt, admin, &steps);
+}
+
+/// A unit moves to the tenth disk.
+fn move_to_the_tenth(rt: &impl Abort, admin: &mut Admin) {
+    let steps = [
         Step::Assign(1, Ok(&[Target { index: 0, disk: 10 }])),
         Step::Assign(1, Ok(&[Target { index: 0, disk: 10 }])),
         Step::Settle(&[]),
         Step::Finish(1, 1, &[Target { index: 0, disk: 10 }]),
         Step::Settle(&[]),
         Step::Assign(2, Ok(&[Target { index: 0, disk: 10 }])),
+    ];
+    run_all(rt, admin, &steps);
+}
+
+/// The tenth disk breaks while another unit is to go there.
+fn repair_the_tenth(rt: &impl Abort, admin: &mut Admin) {
+    let steps = [
         Step::Break(10, Ok(())),
         Step::Repair(10, Ok(1)),
         Step::Assign(2, Err(AdminFault::NoDisk)),
@@ -285,32 +323,39 @@ fn drops_and_repairs(rt: HostRuntime) -> Result<(), Fail> {
         Step::Settle(&[]),
         Step::Finish(2, 2, &[Target { index: 0, disk: 1 }]),
         Step::Settle(&[(10, DiskState::Repaired)]),
-        Step::Repair(
-            10,
-            Err(AdminFault::BadState {
-                state: DiskState::Repaired,
-            }),
-        ),
+        Step::Repair(10, bad_state(DiskState::Repaired)),
+    ];
+    run_all(rt, admin, &steps);
+}
+
+/// The ninth disk is dropped.
+fn drop_the_ninth(rt: &impl Abort, admin: &mut Admin) {
+    let steps = [
         Step::Drop(9, Ok(2)),
         Step::Finish(4, 1, &[Target { index: 8, disk: 10 }]),
         Step::Finish(5, 2, &[Target { index: 8, disk: 10 }]),
         Step::Settle(&[(9, DiskState::Dropped)]),
-        Step::Drop(
-            9,
-            Err(AdminFault::BadState {
-                state: DiskState::Dropped,
-            }),
-        ),
+        Step::Drop(9, bad_state(DiskState::Dropped)),
         Step::Balance(1, &[7], Ok(6)),
         Step::Assign(6, Err(AdminFault::NoDisk)),
         Step::Unfinished(&[6]),
     ];
-    let _admin = run_all(&rt, rt.alloc(), &steps)?;
-    Ok(())
+    run_all(rt, admin, &steps);
 }
 
 #[test]
-fn several_units_at_once(rt: HostRuntime) -> Result<(), Fail> {
+fn drops_and_repairs(rt: HostRuntime) -> Result<(), Fail> {
+    let mut admin = three_placers(rt.alloc())?;
+    two_volumes(&rt, &mut admin);
+    drop_the_first(&rt, &mut admin);
+    move_to_the_tenth(&rt, &mut admin);
+    repair_the_tenth(&rt, &mut admin);
+    drop_the_ninth(&rt, &mut admin);
+    Ok(())
+}
+
+/// Units of a volume that are moved together.
+fn balance_two(rt: &impl Abort, admin: &mut Admin) {
     let steps = [
         Step::Disks(12, Ok(())),
         Step::Volume(Mode::Ec6P3, Ok(&[1, 2, 3, 4, 5, 6, 7, 8, 9])),
@@ -321,6 +366,13 @@ fn several_units_at_once(rt: HostRuntime) -> Result<(), Fail> {
         Step::Balance(1, &[0, 1, 2], Err(AdminFault::TooMany { most: 2 })),
         Step::Balance(1, &[7, 8], Ok(1)),
         Step::Balance(1, &[6, 8], Err(AdminFault::Busy { task: 1 })),
+    ];
+    run_all(rt, admin, &steps);
+}
+
+/// Four disks that break, and are repaired together.
+fn repair_four(rt: &impl Abort, admin: &mut Admin) {
+    let steps = [
         Step::Assign(
             1,
             Ok(&[Target { index: 7, disk: 10 }, Target { index: 8, disk: 11 }]),
@@ -332,20 +384,23 @@ fn several_units_at_once(rt: HostRuntime) -> Result<(), Fail> {
         Step::Break(12, Ok(())),
         Step::RepairAll(Ok(4)),
         Step::State(12, Ok(DiskState::Repairing)),
-        Step::Task(
-            2,
-            Kind::Repair,
-            1,
-            &[Target { index: 0, disk: 0 }, Target { index: 1, disk: 0 }],
-        ),
-        Step::Task(3, Kind::Repair, 1, &[Target { index: 2, disk: 0 }]),
-        Step::Task(
-            4,
-            Kind::Repair,
-            2,
-            &[Target { index: 0, disk: 0 }, Target { index: 1, disk: 0 }],
-        ),
-        Step::Task(5, Kind::Repair, 2, &[Target { index: 2, disk: 0 }]),
+    ];
+    run_all(rt, admin, &steps);
+}
+
+/// The tasks of the repair.
+fn ask_for_tasks(rt: &impl Abort, admin: &mut Admin) {
+    let first_two = [Target { index: 0, disk: 0 }, Target { index: 1, disk: 0 }];
+    let third = [Target { index: 2, disk: 0 }];
+    task(rt, admin, 2, Kind::Repair, 1, &first_two);
+    task(rt, admin, 3, Kind::Repair, 1, &third);
+    task(rt, admin, 4, Kind::Repair, 2, &first_two);
+    task(rt, admin, 5, Kind::Repair, 2, &third);
+}
+
+/// Disks for them, and a volume that is lost.
+fn end_repairs(rt: &impl Abort, admin: &mut Admin) {
+    let steps = [
         Step::Assign(2, Err(AdminFault::NoDisk)),
         Step::Assign(
             4,
@@ -355,7 +410,16 @@ fn several_units_at_once(rt: HostRuntime) -> Result<(), Fail> {
         Step::Lose(1),
         Step::Unfinished(&[4, 5]),
     ];
-    let _admin = run_all(&rt, rt.alloc(), &steps)?;
+    run_all(rt, admin, &steps);
+}
+
+#[test]
+fn several_units_at_once(rt: HostRuntime) -> Result<(), Fail> {
+    let mut admin = three_placers(rt.alloc())?;
+    balance_two(&rt, &mut admin);
+    repair_four(&rt, &mut admin);
+    ask_for_tasks(&rt, &mut admin);
+    end_repairs(&rt, &mut admin);
     Ok(())
 }
 
@@ -469,67 +533,6 @@ fn locations(rt: HostRuntime) -> Result<(), Fail> {
     locate(&rt, &admin, "b", &none, Err(AdminFault::NoName));
     admin.lose_volume(1);
     locate(&rt, &admin, "a", &none, Err(AdminFault::NoVolume));
-    Ok(())
-}
-
-/// Takes 1,000 names out, each seventh.
-fn take_out(rt: &impl Abort, alloc: Global, admin: &mut Admin) -> Result<(), Fail> {
-    for step in 0..1_000u64 {
-        let bid = step * 7;
-        let name = format!(in alloc; "n{bid}")?;
-        assert_eq!(rt; admin.remove_name(name.as_str()).map(|at| at.bid), Ok(bid));
-    }
-    Ok(())
-}
-
-/// The bid of the name at a place.
-fn bid_at(admin: &Admin, place: u64) -> Result<Option<u64>, Fail> {
-    match admin.name_at(place)? {
-        Some((_name, at)) => Ok(Some(at.bid)),
-        None => Ok(None),
-    }
-}
-
-/// Compares each place, where each seventh of the first 7,000 names was taken out.
-fn all_places(rt: &impl Abort, admin: &Admin) -> Result<(), Fail> {
-    for place in 0..99_000u64 {
-        let before = if place < 6_000 { place / 6 + 1 } else { 1_000 };
-        assert_eq!(rt; bid_at(admin, place)?, Some(place + before));
-    }
-    Ok(())
-}
-
-#[test]
-fn many_names(rt: HostRuntime) -> Result<(), Fail> {
-    let mut admin = three_placers(rt.alloc())?;
-    assert_eq!(rt; admin.name("n7"), Err(AdminFault::NoName));
-    assert_eq!(rt; admin.remove_name("n7"), Err(AdminFault::NoName));
-    for bid in 0..100_000u64 {
-        let name = format!(in rt.alloc(); "n{bid}")?;
-        admin.add_name(
-            name.as_str(),
-            Object {
-                vid: 1,
-                bid,
-                size: 1,
-            },
-        )?;
-    }
-    let at = Object {
-        vid: 1,
-        bid: 7,
-        size: 1,
-    };
-    assert_eq!(rt; admin.name("n7"), Ok(at));
-    assert_eq!(rt; admin.may_add_name("more"), Err(AdminFault::LimitNames));
-    assert_eq!(rt; admin.add_name("more", at), Err(AdminFault::LimitNames));
-    assert_eq!(rt; admin.add_name("n7", at), Err(AdminFault::NameTaken));
-    take_out(&rt, rt.alloc(), &mut admin)?;
-    assert_eq!(rt; admin.may_add_name("n7"), Ok(()));
-    all_places(&rt, &admin)?;
-    assert_eq!(rt; bid_at(&admin, 99_000)?, None);
-    admin.add_name("n7", at)?;
-    assert_eq!(rt; bid_at(&admin, 99_000)?, Some(7));
     Ok(())
 }
 

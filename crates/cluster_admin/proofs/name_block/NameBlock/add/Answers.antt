@@ -3,7 +3,7 @@ use Rattle.std.specs.Map.{lookup}
 use Rattle.std.specs.Str.{bytes_eq}
 use Rattle.indexmap.proofs.CallerLemmas.{insert_entry-new}
 use Rattle.cluster_admin.proofs.NameLemmas.{lookup_seen, added_seen}
-use Rattle.cluster_admin.proofs.names.Names.add.Goals as goal
+use Rattle.cluster_admin.proofs.name_block.NameBlock.add.Goals as goal
 
 pub returns-clause-ok : goal.returns-clause-ok
 returns-clause-ok c =
