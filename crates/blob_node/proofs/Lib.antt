@@ -1,2 +1,11 @@
 pub mod Lookups
 pub mod LawProofs
+pub mod Plans
+pub mod RowsLaws
+pub mod Holdings
+pub mod Working
+pub mod Requests
+pub mod ReadWork
+pub mod ListWork
+pub mod Settling
+pub mod Fresh

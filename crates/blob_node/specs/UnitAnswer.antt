@@ -68,6 +68,15 @@ units_after place request Effect.Wrote units = with_written place (record_of req
 units_after place request Effect.Doubted units =
     record units { is_shut = with_at place true units.is_shut; doubt = with_at place (record_of request) units.doubt }
 
+-- the chunk at this place is started, with no record in doubt
+abbrev pub settled_at : Place → Units → Units
+settled_at place units = record units { is_shut = with_at place false units.is_shut; doubt = with_at place None units.doubt }
+
+-- the units once a shut chunk is started, where the record in doubt was found or not
+abbrev pub settled : Place → Bool → Units → Units
+settled place true units = with_written place (units.doubt place) (settled_at place units)
+settled place false units = settled_at place units
+
 -- the numbers stand in ascending order
 abbrev pub AreAscending : List ℕ → Type 0
 AreAscending [] = Unit {0}

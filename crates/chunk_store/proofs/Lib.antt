@@ -1,5 +1,6 @@
 pub mod AddRecord
 pub mod Added
+pub mod ChunkLaws
 pub mod Entries
 pub mod Finding
 pub mod Listings

@@ -10,6 +10,8 @@ use Rattle.shard_record.specs.declared.record.ShardRecord.{ShardRecord}
 use Rattle.shard_record.specs.declared.record.ShardRecord.TheVariants.{Shard, Mark, Free, Fence, Release}
 use Rattle.chunk_store.specs.declared.fault.ChunkFault.{ChunkFault}
 use Rattle.chunk_store.specs.declared.fault.ChunkFault.TheVariants.{Fault, Memory}
+use Rattle.chunk_store.specs.declared.answer.RowKind.{RowKind}
+use Rattle.chunk_store.specs.declared.answer.RowKind.TheVariants as kinds
 use Rattle.chunk_store.specs.declared.index.KeptRow.{KeptRow}
 use Rattle.chunk_store.specs.declared.index.KeptRow.TheVariants.{Live, Marked, Gone}
 
@@ -24,6 +26,13 @@ nothing_kept = record { rows = map.empty; fence = None; is_released = false }
 
 abbrev pub row_of : KeptRows → ℕ → Option KeptRow
 row_of kept bid = map.get kept.rows bid
+
+-- what it is, without its place
+abbrev pub kind_of : Option KeptRow → Option RowKind
+kind_of None = None
+kind_of (Some (Live place blob_size)) = Some kinds.Live
+kind_of (Some Marked) = Some kinds.Marked
+kind_of (Some Gone) = Some kinds.Gone
 
 -- ---- what one record more does, as it does to the rows themselves
 

@@ -8,7 +8,9 @@ use Rattle.shard_record.specs.Rows as rows
 use Rattle.shard_record.specs.Spelling.{Spells, unit_of}
 use Rattle.shard_record.specs.declared.record.ShardRecord.{ShardRecord}
 use Rattle.shard_record.specs.declared.record.ShardRecord.TheVariants.{Shard}
-use Rattle.chunk_store.specs.Kept.{KeptRows, row_of}
+use Rattle.chunk_store.specs.Kept.{KeptRows, row_of, kind_of}
+use Rattle.chunk_store.specs.declared.answer.RowKind.{RowKind}
+use Rattle.chunk_store.specs.declared.answer.RowKind.TheVariants as kinds
 use Rattle.chunk_store.specs.declared.index.KeptRow.{KeptRow}
 use Rattle.chunk_store.specs.declared.index.KeptRow.TheVariants.{Live, Marked, Gone}
 
@@ -60,5 +62,18 @@ IsKept unit bodies bid _ _ = ⊥
 -- what is kept of these rows, where the bodies are the records that left them
 pub record Reflects (unit : Name) (bodies : List (List ℕ)) (kept : KeptRows) (now : Rows) : Type 0 where
   pub rows : (bid : ℕ) → IsKept unit bodies bid (row_of kept bid) (map.get now.rows bid)
+  pub fence : kept.fence ≡ now.fence
+  pub released : kept.is_released ≡ now.is_released
+
+-- what a row is, without its bytes
+abbrev pub kind_of_row : Option Row → Option RowKind
+kind_of_row None = None
+kind_of_row (Some (rows.Live blob_size bytes)) = Some kinds.Live
+kind_of_row (Some rows.Marked) = Some kinds.Marked
+kind_of_row (Some rows.Gone) = Some kinds.Gone
+
+-- what is kept of these rows, without where the shards stand
+pub record HasKinds (kept : KeptRows) (now : Rows) : Type 0 where
+  pub kinds : (bid : ℕ) → kind_of (row_of kept bid) ≡ kind_of_row (map.get now.rows bid)
   pub fence : kept.fence ≡ now.fence
   pub released : kept.is_released ≡ now.is_released

@@ -25,3 +25,14 @@ pub enum Got {
     /// Nothing.
     Absent,
 }
+
+/// What the row of a blob is, without its bytes.
+#[derive(Clone, Copy, Debug, PartialEq, Eq)]
+pub enum RowKind {
+    /// The blob's shard is stored.
+    Live,
+    /// The blob is marked as deleted.
+    Marked,
+    /// The shard is gone for good.
+    Gone,
+}

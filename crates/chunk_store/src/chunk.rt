@@ -7,7 +7,7 @@ ghost use Rattle.shard_record.specs.declared.record.ShardRecord.{ShardRecord};
 ghost use Rattle.shard_record.specs.declared.record.ShardRecord.TheVariants.{Shard};
 ghost use Rattle.chunk_store.specs.declared.answer.Put.TheVariants.{Stored};
 ghost use Rattle.chunk_store.specs.declared.fault.ChunkFault.TheVariants.{Memory};
-ghost use Rattle.chunk_store.specs.Kept.{row_of, is_live, is_deleted, Lists};
+ghost use Rattle.chunk_store.specs.Kept.{row_of, kind_of, is_live, is_deleted, Lists};
 ghost use Rattle.chunk_store.specs.Records.{IsChunkOf};
 ghost use Rattle.chunk_store.specs.Chunk.{shown, IsSound, HasRecords, ChunkCall, StartAnswers, StartEnds, StartsWith, Starts, MayWrite, put_plan, mark_plan, free_plan, fence_plan, release_plan, Does, Adds, GetAnswers, Gets, IsReadOnly, ListAnswers};
 
@@ -15,7 +15,7 @@ use crate::index::{KeptRow, RowIndex};
 use crate::reading::read_shard;
 use crate::starting::start_rows;
 use crate::writing::append_record;
-use crate::{ChunkFault, Got, Put};
+use crate::{ChunkFault, Got, Put, RowKind};
 use disk_base::Extent;
 use gate_log::GateLog;
 use shard_record::ShardRecord;
@@ -279,6 +279,32 @@ impl<E: Extent> Chunk<E> {
         ensures { result ≡ self.now.kept.is_released }
     {
         self.index.is_released()
+    }
+
+    /// The unit whose rows these are.
+    pub fn unit(&self) -> UnitName
+        ensures { result ≡ self.now.unit }
+    {
+        self.unit
+    }
+
+    /// What memory keeps of the row of a blob.
+    pub fn row(&self, bid: u64) -> Option<RowKind>
+        ensures { result ≡ kind_of (row_of self.now.kept bid) }
+    {
+        match self.index.row(bid) {
+            None => None,
+            Some(KeptRow::Live { .. }) => Some(RowKind::Live),
+            Some(KeptRow::Marked) => Some(RowKind::Marked),
+            Some(KeptRow::Gone) => Some(RowKind::Gone),
+        }
+    }
+
+    /// The number of the lock that fenced the chunk, as memory keeps it.
+    pub fn fence_lock(&self) -> Option<u64>
+        ensures { result ≡ self.now.kept.fence }
+    {
+        self.index.fence()
     }
 
     /// The file, as the chunk leaves it.

@@ -9,7 +9,7 @@
 //! the end; so are those of each file that a crash at any moment inside leaves, and a start finds them.
 //!
 //! Public: `Chunk` with `over`, `start`, `put`, `get`, `mark`, `free`, `list`, `fence`, `release`, `reserve`,
-//! `is_shut`, `is_released` and `into_file`; `ChunkFault`, `Put` and `Got`.
+//! `is_shut`, `is_released`, `unit`, `row`, `fence_lock` and `into_file`; `ChunkFault`, `Put`, `Got` and `RowKind`.
 #![tactic(auto)]
 
 mod answer;
@@ -22,6 +22,6 @@ mod starting;
 mod tests;
 mod writing;
 
-pub use answer::{Got, Put};
+pub use answer::{Got, Put, RowKind};
 pub use chunk::Chunk;
 pub use fault::ChunkFault;
