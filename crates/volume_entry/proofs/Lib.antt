@@ -5,3 +5,12 @@ pub mod Grants
 pub mod LawProofs
 pub mod StepProofs
 pub mod LegalProofs
+pub mod RecordLists
+pub mod RecordKinds
+pub mod RecordReads
+pub mod TableLists
+pub mod Walks
+pub mod FirstHomes
+pub mod OneSpelling
+pub mod Replays
+pub mod Bids

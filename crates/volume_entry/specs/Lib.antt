@@ -1,6 +1,13 @@
 pub mod View
 pub mod Manager
+pub mod Spelling
+pub mod RecordBytes
+pub mod KeptTable
+pub mod TableParts
+pub mod FirstHomes
+pub mod Replaying
 pub mod Benchmark
 pub mod Reply
 pub mod ManagerStep
 pub mod Laws
+pub mod ShownView

@@ -1,6 +1,7 @@
 //! What follows from the definitions, whatever log there is.
 
 ghost use Rattle.volume_entry.specs.Laws.{EpochsOnlyGrow, LogsSayOneThing, StepsShow, StepsWriteLegalRecords};
+ghost use Rattle.volume_entry.specs.Spelling.{IsOneToOne};
 
 /// A log of legal records leaves one manager's part and no other.
 pub fn logs_say_one_thing()
@@ -24,4 +25,9 @@ pub fn steps_show()
 /// The record that a step writes, where it isn't refused, is legal behind the records before it.
 pub fn steps_write_legal_records()
     ensures { StepsWriteLegalRecords }
+{}
+
+/// A byte string is the spelling of one record at most, in the log of a volume.
+pub fn records_have_one_spelling()
+    ensures { IsOneToOne }
 {}
