@@ -5,10 +5,10 @@ use Rattle.unit_id.specs.Request.{Request}
 use Rattle.code_mode.specs.declared.mode.Mode.{Mode}
 use Rattle.code_mode.specs.VolumeShape.{VolumeShape, IsVolumeShape}
 use Rattle.blob_node.specs.Units.{UnitRecord, after_shard, is_live}
-use Rattle.blob_node.specs.UnitAnswer.{with_written}
+use Rattle.blob_node.specs.UnitAnswer.{with_written, settled_at}
 use Rattle.volume_world.specs.State.{State}
 use Rattle.volume_world.specs.BlobStatus.{is_begun}
-use Rattle.volume_world.specs.Move.{Move, Moves, SettlesUnit, IsSendable, settled_at}
+use Rattle.volume_world.specs.Move.{Move, Moves, SettlesUnit, IsSendable}
 use Rattle.volume_world.specs.Contents.{Contents, begun_shard, found_shard, Carries, Issued, Fills, MovesWith, IsBegunParcel, AreAsBegun}
 use Rattle.volume_world.specs.Invariant.{Kept}
 use Rattle.volume_world.specs.Laws.{BytesStayAsBegun}

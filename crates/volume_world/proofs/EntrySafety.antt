@@ -6,10 +6,10 @@ use Rattle.unit_id.proofs.Bools.{contrary}
 use Rattle.unit_id.proofs.Places.{is_place_gives}
 use Rattle.code_mode.specs.VolumeShape.{VolumeShape, IsVolumeShape}
 use Rattle.blob_node.specs.Units.{UnitRecord, Units, is_live, with_at}
-use Rattle.blob_node.specs.UnitAnswer.{Effect, units_after, record_of, with_written, started, writes}
+use Rattle.blob_node.specs.UnitAnswer.{Effect, units_after, record_of, with_written, started, writes, settled_at}
 use Rattle.volume_entry.specs.Manager.{home_at, current, transfers_of, is_swapped, is_old}
 use Rattle.volume_world.specs.State.{State}
-use Rattle.volume_world.specs.Move.{Handles, SettlesUnit, settled_at}
+use Rattle.volume_world.specs.Move.{Handles, SettlesUnit}
 use Rattle.volume_world.specs.Run.{World, Step, Leads}
 use Rattle.volume_world.specs.Durability.{IsHeld}
 use Rattle.volume_world.specs.Invariant.{Kept}

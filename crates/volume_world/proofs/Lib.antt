@@ -41,3 +41,6 @@ pub mod EntryMoves
 pub mod AckProofs
 pub mod DeletesStay
 pub mod RunProofs
+pub mod Stretches
+pub mod Comings
+pub mod Telling

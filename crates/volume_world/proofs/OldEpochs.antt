@@ -8,10 +8,10 @@ use Rattle.unit_id.proofs.Bools.{and_left, contrary}
 use Rattle.unit_id.proofs.Places.{is_place_gives}
 use Rattle.code_mode.specs.VolumeShape.{VolumeShape, IsVolumeShape}
 use Rattle.blob_node.specs.Units.{RowState, UnitRecord, Units, is_row_record, with_at, with_row}
-use Rattle.blob_node.specs.UnitAnswer.{UnitView, Effect, Answers, view_at, units_after, with_written, writes, is_row_request}
+use Rattle.blob_node.specs.UnitAnswer.{UnitView, Effect, Answers, view_at, units_after, with_written, writes, is_row_request, settled_at}
 use Rattle.volume_entry.specs.Manager.{home_at}
 use Rattle.volume_world.specs.State.{State}
-use Rattle.volume_world.specs.Move.{Handles, SettlesUnit, settled_at}
+use Rattle.volume_world.specs.Move.{Handles, SettlesUnit}
 use Rattle.volume_world.specs.Run.{World, Step, Leads}
 use Rattle.volume_world.specs.Invariant.{Kept}
 use Rattle.volume_world.specs.Laws.{IsBelowCurrent, is_accepting, OldEpochsAreFenced}

@@ -6,12 +6,12 @@ use Rattle.unit_id.specs.Place.{Location, Place}
 use Rattle.code_mode.specs.VolumeShape.{VolumeShape, last_time}
 use Rattle.unit_id.specs.Request.{Request}
 use Rattle.blob_node.specs.Units.{UnitRecord, with_at}
-use Rattle.blob_node.specs.UnitAnswer.{with_written}
+use Rattle.blob_node.specs.UnitAnswer.{with_written, settled_at}
 use Rattle.volume_entry.specs.Manager.{Lock, ManagerRecord, settled}
 use Rattle.volume_entry.specs.Reply.{Reply}
 use Rattle.volume_world.specs.State.{State}
 use Rattle.volume_world.specs.BlobStatus.{is_begun}
-use Rattle.volume_world.specs.Move.{IsSendable, Issues, Ticks, Restarts, RestartsManager, settled_at, SettlesUnit}
+use Rattle.volume_world.specs.Move.{IsSendable, Issues, Ticks, Restarts, RestartsManager, SettlesUnit}
 use Rattle.volume_world.specs.Fencing.{IsFenceOf}
 use Rattle.volume_world.specs.Authority.{IsLicensed, WasIssued, IsDoubtSound}
 use Rattle.blob_node.specs.Units.{is_row_record}

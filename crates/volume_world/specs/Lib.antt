@@ -21,3 +21,11 @@ pub mod Invariant
 pub mod Laws
 pub mod Examples
 pub mod Stories
+pub mod Trace
+pub mod Told
+pub mod Way
+pub mod Asking
+pub mod Replying
+pub mod Course
+pub mod Call
+pub mod Progress

@@ -4,8 +4,8 @@ use Rattle.unit_id.specs.Lists.{IsIn, is_in, count_below, first_that_holds}
 use Rattle.unit_id.specs.Place.{Place}
 use Rattle.code_mode.specs.VolumeShape.{VolumeShape, last_time}
 use Rattle.unit_id.specs.Request.{Request, Answer, place_of}
-use Rattle.blob_node.specs.Units.{Units, with_at}
-use Rattle.blob_node.specs.UnitAnswer.{Effect, Answers, view_at, units_after, with_written}
+use Rattle.blob_node.specs.Units.{Units}
+use Rattle.blob_node.specs.UnitAnswer.{Effect, Answers, view_at, units_after, with_written, settled_at}
 use Rattle.volume_entry.specs.Manager.{Lock, ManagerRecord, Manager, home_at, transfers_of, is_swapped, has_number, is_destination, is_destination_there, is_old, is_current, written, settled, forgetful, IsDisk, IsBid}
 use Rattle.volume_entry.specs.View.{View, flags_of}
 use Rattle.volume_entry.specs.Reply.{Reply}
@@ -164,10 +164,7 @@ SettlesManager s true t =
     (s.manager.is_shut ≡ true) × (is_some s.manager.doubt ≡ true) × (t ≡ record s { manager = forgetful (settled (found s.manager.doubt s.manager)) })
 SettlesManager s false t = (s.manager.is_shut ≡ true) × (t ≡ record s { manager = forgetful (settled s.manager) })
 
--- the chunk at this place is started, with no record in doubt
-abbrev pub settled_at : Place → Units → Units
-settled_at place units = record units { is_shut = with_at place false units.is_shut; doubt = with_at place None units.doubt }
-
+-- a shut chunk is started, and its record in doubt is found written or not
 abbrev pub SettlesUnit : Place → State → Bool → State → Type 0
 SettlesUnit place s true t =
     (s.units.is_shut place ≡ true) × (is_some (s.units.doubt place) ≡ true)

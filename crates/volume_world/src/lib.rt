@@ -5,5 +5,16 @@
 //! says which moves an entry of a history is. `specs/Invariant` has what every move keeps, a file each part.
 #![tactic(auto)]
 
+mod event;
 pub mod examples;
+mod fault;
 pub mod laws;
+mod port;
+mod reply;
+mod trace;
+
+pub use event::Event;
+pub use fault::StepFault;
+pub use port::Port;
+pub use reply::Reply;
+pub use trace::{Trace, TraceAnswer, TraceEvent, TraceReply, TraceRequest};
