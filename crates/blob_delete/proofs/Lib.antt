@@ -1,0 +1,5 @@
+mod SweepCounts
+mod SweepCommits
+mod SweepClaims
+mod SweepLemmas
+mod StandInSteps

@@ -1,0 +1,4 @@
+pub mod SweepCall
+pub mod SweepParts
+pub mod Sweeps
+pub mod StandIn
