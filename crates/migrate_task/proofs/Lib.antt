@@ -1,0 +1,3 @@
+mod TaskLemmas
+mod WorkLemmas
+mod StartLemmas

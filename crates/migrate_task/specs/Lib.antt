@@ -1,0 +1,4 @@
+pub mod Work
+pub mod Copies
+pub mod AdvanceCall
+pub mod TaskParts
