@@ -10,14 +10,6 @@ use std::time::{Duration, Instant};
 /// that each comes once.
 const STRIDE: usize = 65_537;
 
-/// The tables of a store with one placer.
-fn tables(alloc: Global) -> Result<Admin> {
-    let first: Box<dyn Placer> = Box::new(alloc, First::new())?;
-    let mut placers = Vec::new(alloc);
-    placers.push(first)?;
-    Ok(Admin::make(alloc, placers)?)
-}
-
 /// So many names.
 fn made(alloc: Global, count: usize) -> Result<Vec<String>> {
     let mut names = Vec::with_capacity(alloc, count)?;
@@ -27,17 +19,13 @@ fn made(alloc: Global, count: usize) -> Result<Vec<String>> {
     Ok(names)
 }
 
-/// Enters the names, each with its place as its bid.
-fn enter(admin: &mut Admin, names: &[String]) -> Result<()> {
-    for (place, name) in names.iter().enumerate() {
-        let object = Object {
-            vid: 1,
-            bid: place as u64,
-            size: 1,
-        };
-        admin.add_name(name.as_str(), object)?;
+/// The object that is entered at a place: its place is its bid.
+fn object_at(place: usize) -> Object {
+    Object {
+        vid: 1,
+        bid: place as u64,
+        size: 1,
     }
-    Ok(())
 }
 
 /// Looks the names up, and sums up their bids.
@@ -45,17 +33,6 @@ fn look_up(admin: &Admin, names: &[String]) -> Result<u64> {
     let mut sum: u64 = 0;
     for name in names {
         sum = sum.wrapping_add(admin.name(name.as_str())?.bid);
-    }
-    Ok(sum)
-}
-
-/// Takes the names out in another order than that of put, and sums up their bids.
-fn take_out(admin: &mut Admin, names: &[String]) -> Result<u64> {
-    let mut sum: u64 = 0;
-    let mut place: usize = 0;
-    for _step in 0..names.len() {
-        place = place.wrapping_add(STRIDE) % names.len();
-        sum = sum.wrapping_add(admin.remove_name(names[place].as_str())?.bid);
     }
     Ok(sum)
 }
@@ -80,13 +57,22 @@ pub fn turn_over<R: Clock>(
     rounds: u32,
 ) -> Result<(u64, Duration)> {
     let names = made(alloc, count)?;
-    let mut admin = tables(alloc)?;
+    let first: Box<dyn Placer> = Box::new(alloc, First::new())?;
+    let mut placers = Vec::new(alloc);
+    placers.push(first)?;
+    let mut admin = Admin::make(alloc, placers)?;
     let mut sum: u64 = 0;
     let start = Instant::now(rt)?;
     for _round in 0..rounds {
-        enter(&mut admin, &names)?;
+        for (place, name) in names.iter().enumerate() {
+            admin.add_name(name.as_str(), object_at(place))?;
+        }
         sum = sum.wrapping_add(look_up(&admin, &names)?);
-        sum = sum.wrapping_add(take_out(&mut admin, &names)?);
+        let mut place: usize = 0;
+        for _step in 0..names.len() {
+            place = place.wrapping_add(STRIDE) % names.len();
+            sum = sum.wrapping_add(admin.remove_name(names[place].as_str())?.bid);
+        }
     }
     Ok((sum, start.elapsed(rt)?))
 }
@@ -100,8 +86,13 @@ pub fn find_places<R: Clock>(
     rounds: u32,
 ) -> Result<(u64, Duration)> {
     let names = made(alloc, count)?;
-    let mut admin = tables(alloc)?;
-    enter(&mut admin, &names)?;
+    let first: Box<dyn Placer> = Box::new(alloc, First::new())?;
+    let mut placers = Vec::new(alloc);
+    placers.push(first)?;
+    let mut admin = Admin::make(alloc, placers)?;
+    for (place, name) in names.iter().enumerate() {
+        admin.add_name(name.as_str(), object_at(place))?;
+    }
     let mut sum: u64 = 0;
     let start = Instant::now(rt)?;
     for _round in 0..rounds {

@@ -1,16 +1,26 @@
-ghost use Rattle.std.specs.Prelude.{◌≡◌, ◌+◌, ◌≤◌, length, IfOk};
+ghost use Rattle.std.specs.Prelude.{◌≡◌, length, IfOk};
 ghost use Rattle.rs_code.specs.RowCache.{AllFit};
+ghost use Rattle.rs_code.specs.Shape.{shape};
 
 use super::*;
 use disk_base::NoMemory;
 use std::alloc::Global;
-use std::process::Abort;
 use std::test::Fail;
 use unit_id::Bytes;
 
 /// A shard of these bytes.
 fn shard(alloc: Global, bytes: &[u8]) -> Result<Bytes, Fail> {
     Ok(Bytes::from_vec(Vec::from_slice(alloc, bytes)?))
+}
+
+/// Adds a shard to a set.
+fn put(shards: &mut Shards, index: usize, bytes: Bytes) -> Result<(), Fail>
+    ensures { length shards.new ≡ length shards.old }
+{
+    match shards.add(index, bytes) {
+        Ok(()) => Ok(()),
+        Err(fault) => Err(Fail::from(fault)),
+    }
 }
 
 /// Byte `k` of data shard `i` of the round trips.
@@ -20,43 +30,97 @@ fn data_byte(i: u8, k: u8) -> u8 {
         .wrapping_add(i.wrapping_mul(k))
 }
 
-/// `n` data shards of `size` bytes each, of `n + m`.
-fn data_shards(alloc: Global, n: u8, m: u8, size: u8) -> Result<Shards, Fail>
-    ensures { IfOk result (λ shards. length shards ≡ n + m) }
+/// Data shard `i` of the round trips, of five bytes.
+fn data_shard(alloc: Global, i: u8) -> Result<Bytes, Fail> {
+    shard(
+        alloc,
+        &[
+            data_byte(i, 0),
+            data_byte(i, 1),
+            data_byte(i, 2),
+            data_byte(i, 3),
+            data_byte(i, 4),
+        ],
+    )
+}
+
+/// The six data shards of the round trips, of nine.
+fn six_of_nine(alloc: Global) -> Result<Shards, Fail>
+    ensures { IfOk result (λ shards. length shards ≡ 9) }
 {
-    let mut shards = Shards::make(alloc, usize::from(n) + usize::from(m));
-    for i in 0..n {
-        let mut bytes = Vec::new(alloc);
-        for k in 0..size {
-            bytes.push(data_byte(i, k))?;
-        }
-        shards.add(usize::from(i), Bytes::from_vec(bytes))?;
-    }
+    let mut shards = Shards::make(alloc, 9);
+    put(&mut shards, 0, data_shard(alloc, 0)?)?;
+    put(&mut shards, 1, data_shard(alloc, 1)?)?;
+    put(&mut shards, 2, data_shard(alloc, 2)?)?;
+    put(&mut shards, 3, data_shard(alloc, 3)?)?;
+    put(&mut shards, 4, data_shard(alloc, 4)?)?;
+    put(&mut shards, 5, data_shard(alloc, 5)?)?;
     Ok(shards)
 }
 
-/// The shards of a set but for those whose bit in `dropped` is 1.
-fn without(alloc: Global, full: &Shards, total: usize, dropped: u32) -> Result<Shards, Fail>
-    ensures { IfOk result (λ shards. length shards ≡ total) }
+/// Adds a shard that another set has, unless its bit in `dropped` is 1.
+fn keep(
+    alloc: Global,
+    shards: &mut Shards,
+    full: &Shards,
+    index: u8,
+    dropped: u32,
+) -> Result<(), Fail>
+    ensures { length shards.new ≡ length shards.old }
 {
-    let mut shards = Shards::make(alloc, total);
-    let mut left = dropped;
-    for k in 0..total {
-        if left % 2 == 0
-            && let Some(bytes) = full.get(k)
-        {
-            shards.add(k, shard(alloc, bytes)?)?;
-        }
-        left /= 2;
+    let Some(bytes) = full.get(usize::from(index)) else {
+        return Ok(());
+    };
+    if dropped >> (index % 32) & 1 == 1 {
+        return Ok(());
     }
+    put(shards, usize::from(index), shard(alloc, bytes)?)
+}
+
+/// The shards of a set of nine but for those whose bit in `dropped` is 1.
+fn without(alloc: Global, full: &Shards, dropped: u32) -> Result<Shards, Fail>
+    ensures { IfOk result (λ shards. length shards ≡ 9) }
+{
+    let mut shards = Shards::make(alloc, 9);
+    keep(alloc, &mut shards, full, 0, dropped)?;
+    keep(alloc, &mut shards, full, 1, dropped)?;
+    keep(alloc, &mut shards, full, 2, dropped)?;
+    keep(alloc, &mut shards, full, 3, dropped)?;
+    keep(alloc, &mut shards, full, 4, dropped)?;
+    keep(alloc, &mut shards, full, 5, dropped)?;
+    keep(alloc, &mut shards, full, 6, dropped)?;
+    keep(alloc, &mut shards, full, 7, dropped)?;
+    keep(alloc, &mut shards, full, 8, dropped)?;
     Ok(shards)
 }
 
-/// Two sets have the same shards.
-fn assert_same(rt: &impl Abort, shards: &Shards, others: &Shards, total: usize) {
-    for k in 0..total {
-        assert_eq!(rt; shards.get(k), others.get(k), "shard {k}");
+/// All nine shards of the round trips.
+fn nine(alloc: Global) -> Result<Shards, Fail> {
+    let mut coder = Coder::new(alloc, 6, 3, 1)?;
+    let mut shards = six_of_nine(alloc)?;
+    coder.fill(&mut shards)?;
+    Ok(shards)
+}
+
+/// Whether the shards that are dropped come back, and the lowest of them alone.
+fn come_back(alloc: Global, full: &Shards, dropped: u32) -> Result<bool, Fail> {
+    let mut coder = Coder::new(alloc, 6, 3, 2)?;
+    let mut shards = without(alloc, full, dropped)?;
+    let lowest = dropped.trailing_zeros() as usize;
+    let rebuilt = coder.rebuild(&shards, lowest.min(8))?;
+    let is_right = full.get(lowest.min(8)) == Some(rebuilt.as_slice());
+    coder.fill(&mut shards)?;
+    Ok(is_right && are_same(&shards, full))
+}
+
+/// Whether two sets have the same nine shards.
+fn are_same(shards: &Shards, others: &Shards) -> bool {
+    for k in 0..9 {
+        if shards.get(k).is_none() || shards.get(k) != others.get(k) {
+            return false;
+        }
     }
+    true
 }
 
 /// Three shards of a byte each, from an index on, of six.
@@ -65,9 +129,9 @@ fn three_from(alloc: Global, first: u8, bytes: [u8; 3]) -> Result<Shards, Fail>
 {
     let first = usize::from(first);
     let mut shards = Shards::make(alloc, 6);
-    shards.add(first, shard(alloc, &[bytes[0]])?)?;
-    shards.add(first + 1, shard(alloc, &[bytes[1]])?)?;
-    shards.add(first + 2, shard(alloc, &[bytes[2]])?)?;
+    put(&mut shards, first, shard(alloc, &[bytes[0]])?)?;
+    put(&mut shards, first + 1, shard(alloc, &[bytes[1]])?)?;
+    put(&mut shards, first + 2, shard(alloc, &[bytes[2]])?)?;
     Ok(shards)
 }
 
@@ -110,8 +174,8 @@ fn two_of_six(alloc: Global) -> Result<Shards, Fail>
     ensures { IfOk result (λ shards. length shards ≡ 6) }
 {
     let mut shards = Shards::make(alloc, 6);
-    shards.add(3, shard(alloc, &[157])?)?;
-    shards.add(4, shard(alloc, &[58])?)?;
+    put(&mut shards, 3, shard(alloc, &[157])?)?;
+    put(&mut shards, 4, shard(alloc, &[58])?)?;
     Ok(shards)
 }
 
@@ -174,29 +238,10 @@ fn refusals_in_their_order(rt: HostRuntime) -> Result<(), Fail> {
 #[test]
 fn every_choice_of_dropped_shards_comes_back(rt: HostRuntime) -> Result<(), Fail> {
     let alloc = rt.alloc();
-    for (n, m, size) in [
-        (3u8, 3u8, 1u8),
-        (3, 3, 4),
-        (6, 3, 0),
-        (6, 3, 5),
-        (6, 3, 40),
-        (12, 4, 5),
-    ] {
-        let total = usize::from(n) + usize::from(m);
-        let mut coder = Coder::new(alloc, usize::from(n), usize::from(m), 1)?;
-        let mut full = data_shards(alloc, n, m, size)?;
-        coder.fill(&mut full)?;
-        for dropped in 0..0x1_0000u32 {
-            if dropped >> total == 0 && dropped.count_ones() == u32::from(m) {
-                let mut shards = without(alloc, &full, total, dropped)?;
-                let lowest = dropped.trailing_zeros() as usize;
-                if lowest < total {
-                    let rebuilt = coder.rebuild(&shards, lowest)?;
-                    assert_eq!(rt; Some(rebuilt.as_slice()), full.get(lowest), "{dropped}");
-                }
-                coder.fill(&mut shards)?;
-                assert_same(&rt, &shards, &full, total);
-            }
+    let full = nine(alloc)?;
+    for dropped in 1..512u32 {
+        if dropped.count_ones() <= 3 {
+            assert!(rt; come_back(alloc, &full, dropped)?, "{dropped}");
         }
     }
     Ok(())
@@ -204,24 +249,13 @@ fn every_choice_of_dropped_shards_comes_back(rt: HostRuntime) -> Result<(), Fail
 
 #[test]
 fn parity_is_as_computed_elsewhere(rt: HostRuntime) -> Result<(), Fail> {
-    let alloc = rt.alloc();
-    for (n, m, index, want) in [
-        (6u8, 3u8, 6usize, [18u8, 15, 49, 9, 108]),
-        (6, 3, 7, [49, 87, 72, 51, 131]),
-        (6, 3, 8, [201, 0, 104, 23, 25]),
-        (12, 4, 12, [244, 92, 67, 192, 220]),
-        (12, 4, 13, [49, 119, 142, 42, 214]),
-        (12, 4, 14, [198, 176, 234, 129, 214]),
-        (12, 4, 15, [55, 251, 103, 123, 80]),
+    let full = nine(rt.alloc())?;
+    for (index, want) in [
+        (6, [18u8, 15, 49, 9, 108]),
+        (7, [49, 87, 72, 51, 131]),
+        (8, [201, 0, 104, 23, 25]),
     ] {
-        let mut coder = Coder::new(alloc, usize::from(n), usize::from(m), 1)?;
-        let mut shards = data_shards(alloc, n, m, 5)?;
-        coder.fill(&mut shards)?;
-        assert_eq!(rt;
-            shards.get(index),
-            Some(want.as_slice()),
-            "{index} of {n} and {m}"
-        );
+        assert_eq!(rt; full.get(index), Some(want.as_slice()), "{index}");
     }
     Ok(())
 }
@@ -283,44 +317,46 @@ fn kept_rows_are_not_made_again(rt: HostRuntime) -> Result<(), Fail> {
     Ok(())
 }
 
-/// The last three shards of six, those of the data bytes 0, 1 and 4.
-fn parity_alone(alloc: Global) -> Result<Shards, Fail>
-    ensures { IfOk result (λ shards. length shards ≡ 6) }
+/// The byte that a coder of three and three rebuilds, how many rows it keeps then, and how many it made.
+fn next_byte(coder: &mut Coder, shards: &Shards, want: u8) -> Result<[u8; 3], Fail>
+    requires shape { shape coder.old ≡ record { data_shards = 3; parity_shards = 3 } }
+    requires total { length shards.now ≡ 6 }
+    ensures { shape coder.new ≡ record { data_shards = 3; parity_shards = 3 } }
 {
-    let mut shards = Shards::make(alloc, 6);
-    shards.add(3, shard(alloc, &[5])?)?;
-    shards.add(4, shard(alloc, &[16])?)?;
-    shards.add(5, shard(alloc, &[17])?)?;
-    Ok(shards)
+    let bytes = coder.rebuild(shards, usize::from(want % 6))?;
+    let kept = coder.entries().min(255) as u8;
+    let made = coder.made().min(255) as u8;
+    match bytes.as_slice() {
+        [byte] => Ok([*byte, kept, made]),
+        _ => Ok([255, kept, made]),
+    }
 }
 
-/// What a coder that keeps so many rows gives for these shards in turn: each byte, the rows kept and those made.
-fn rebuilt_in_turn(alloc: Global, cached: usize, wants: &[u8]) -> Result<Vec<u8>, Fail>
-    requires { 1 ≤ cached }
-{
-    let mut coder = Coder::new(alloc, 3, 3, cached)?;
-    let shards = parity_alone(alloc)?;
-    let mut seen = Vec::new(alloc);
-    for want in wants {
-        let bytes = coder.rebuild(&shards, usize::from(*want % 6))?;
-        seen.extend_from_slice(bytes.as_slice())?;
-        seen.push(coder.entries().min(255) as u8)?;
-        seen.push(coder.made().min(255) as u8)?;
-    }
-    Ok(seen)
+/// What a coder that keeps so many rows rebuilds in turn from the last three shards, those of the data bytes 0, 1 and 4.
+fn rebuilt_in_turn(alloc: Global, cached: u8, wants: [u8; 5]) -> Result<[[u8; 3]; 5], Fail> {
+    let mut coder = Coder::new(alloc, 3, 3, usize::from(cached.max(1)))?;
+    let shards = three_from(alloc, 3, [5, 16, 17])?;
+    Ok([
+        next_byte(&mut coder, &shards, wants[0])?,
+        next_byte(&mut coder, &shards, wants[1])?,
+        next_byte(&mut coder, &shards, wants[2])?,
+        next_byte(&mut coder, &shards, wants[3])?,
+        next_byte(&mut coder, &shards, wants[4])?,
+    ])
 }
 
 #[test]
 fn a_coder_makes_a_row_once_while_it_is_kept(rt: HostRuntime) -> Result<(), Fail> {
-    let one = rebuilt_in_turn(rt.alloc(), 1, &[2, 2, 1, 2, 4])?;
+    // The shard of index 4 is held, so its row is made afresh and neither kept nor counted.
+    let one = rebuilt_in_turn(rt.alloc(), 1, [2, 2, 1, 2, 4])?;
     assert_eq!(rt;
-        one.as_slice(),
-        [4, 1, 1, 4, 1, 1, 1, 1, 2, 4, 1, 3, 16, 1, 3].as_slice()
+        one,
+        [[4, 1, 1], [4, 1, 1], [1, 1, 2], [4, 1, 3], [16, 1, 3]]
     );
-    let many = rebuilt_in_turn(rt.alloc(), 1_000, &[2, 1, 0, 2])?;
+    let many = rebuilt_in_turn(rt.alloc(), 200, [2, 1, 0, 2, 1])?;
     assert_eq!(rt;
-        many.as_slice(),
-        [4, 1, 1, 1, 2, 2, 0, 3, 3, 4, 3, 3].as_slice()
+        many,
+        [[4, 1, 1], [1, 2, 2], [0, 3, 3], [4, 3, 3], [1, 3, 3]]
     );
     Ok(())
 }
