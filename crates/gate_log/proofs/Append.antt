@@ -5,8 +5,7 @@ use Rattle.std.proofs.lemmas.Bool.{cases_eq}
 use Rattle.std.proofs.lemmas.List.{take-take, get_or-drop, get_or_at, take_at, drop_at, drop-drop}
 use Rattle.std.proofs.lemmas.List.Sums.{sum_by_push}
 use Rattle.std.proofs.lemmas.Nat.{from_be_bytes-to_be_bytes_4}
-use Rattle.gate_log.specs.LogFile.{longest_body, mark, length_at, next_place, body_at, record_length, end_place, IsAtRest, IsRecord, record_behind, IsStaged}
-use Rattle.gate_log.proofs.Chain.{Walks}
+use Rattle.gate_log.specs.LogFile.{longest_body, mark, length_at, next_place, body_at, record_length, end_place, IsAtRest, IsRecord, record_behind, IsStaged, Walks}
 use Rattle.gate_log.proofs.Walk.{walk_push}
 use Rattle.gate_log.proofs.Rest.{rest_walk, walk_rest, walk_agrees, rest_behind}
 

@@ -5,15 +5,12 @@ use Rattle.std.proofs.lemmas.Bool.Decides.{nat_tests}
 use Rattle.std.proofs.lemmas.Slice.Eq.{bytes_eq-Decides}
 use Rattle.std.proofs.lemmas.List.{drop_all}
 use Rattle.disk_base.specs.Disk.{Images, FileView, IsTorn, LeavesExactly, Grows, overwritten}
-use Rattle.disk_base.specs.Faults.{added, one_more}
-use Rattle.disk_base.specs.Moments.{added_twice, weaker, after_grow}
-use Rattle.gate_log.specs.declared.fault.LogFault.{LogFault}
-use Rattle.gate_log.specs.declared.fault.LogFault.TheVariants.{Fault, BadHead, BadChain, Shut, BadLength, Full, Memory}
-use Rattle.gate_log.specs.LogFile.{mark, bad_head, bad_chain, chain_of, contents_of, bodies_in, bodies_of, end_place, IsAtRest, IsSameOrOpen, started_file}
-use Rattle.gate_log.specs.GateLog.{IsStarted, EndsAt, gates_read, EndAnswers, ChainAnswers, IsThrough, WritesStart}
-use Rattle.gate_log.proofs.Fetch.{if_some, at_some, some_and}
+use Rattle.disk_base.specs.Moments.{weaker, after_grow}
+use Rattle.gate_log.specs.LogFile.{mark, bad_head, contents_of, bodies_in, bodies_of, end_place, IsAtRest, IsSameOrOpen, started_file}
+use Rattle.gate_log.specs.GateLog.{IsStarted, EndsAt, IsThrough, WritesStart}
+use Rattle.gate_log.proofs.Fetch.{some_and}
 use Rattle.gate_log.proofs.Torn.{overwritten_end}
-use Rattle.gate_log.proofs.Rest.{short_file, unmarked_file, marked_file}
+use Rattle.gate_log.proofs.Rest.{short_file, unmarked_file}
 use Rattle.gate_log.proofs.Steps.{head_torn, head_whole, ends_place, close_torn, close_whole}
 
 pub and_map : {A : Type 0} (o : Option A) (P Q : A → Type 0) → ((x : A) → P x → Q x) → IsSomeAnd o P → IsSomeAnd o Q
@@ -81,12 +78,14 @@ pub with_mark : (was : List ℕ) → bytes_eq (take 8 was) mark ≡ true → tak
 with_mark was t = grind (arith, nat_tests, bytes_eq-Decides)
 
 -- a write of the head
-pub begin_writes : {T E : Type 0} (was : List ℕ) (old new : FileView) (result : Result T E) → length was ≤ 9 → IsThrough 0 (mark ++ 0 ∷ []) was old new result → WritesStart was 8 old new result
-begin_writes was old new result short w = record {
+pub begin_writes : {T E U F : Type 0} (was : List ℕ) (end : ℕ) (old grown new : FileView) (grew : Result U F) (result : Result T E) → Grows end old grown grew → length was ≤ 9
+    → IsThrough 0 (mark ++ 0 ∷ []) was grown new result → WritesStart was 8 old new result
+begin_writes was end old grown new grew result grows short w = record {
   started = on_ok_map result _ _ (begun was new.images new.content short) w.settled;
   written = on_ok_map result _ _ (λ h. h.0 ∙ ap Some (sym (head_is was short) ∙ sym (started_short was short))) w.settled;
   says = and_map new.content (IsTorn 0 9 was) (IsSameOrOpen was) (λ d t. short_torn was d short t) w.torn;
-  moments = λ exactly. weaker (IsTorn 0 9 was) (IsSameOrOpen was) old new (w.moments exactly) (λ d t. short_torn was d short t);
+  moments = λ exactly. after_grow (IsSameOrOpen was) end old grown new grew grows
+      (weaker (IsTorn 0 9 was) (IsSameOrOpen was) grown new (w.moments (λ c left. exactly c ((grows.same_images c).0 left))) (λ d t. short_torn was d short t));
 }
 
 -- a write of a closed gate
@@ -107,21 +106,3 @@ writes_in_part was end old new e f w = record { started = tt; written = tt; says
 
 pub writes_whole : {T E U F : Type 0} (was : List ℕ) (end : ℕ) (old new : FileView) (x : T) (y : U) → WritesStart {T = T} {E = E} was end old new (Ok x) → WritesStart {T = U} {E = F} was end old new (Ok y)
 writes_whole was end old new x y w = record { started = w.started; written = w.written; says = w.says; moments = w.moments }
-
--- the chain behind the mark, by its answer
-pub chain_answers : (len : ℕ) (old mid new : FileView) (result : Result ℕ LogFault) → 9 < len → mid.content ≡ old.content → mid.calls ≡ one_more old.calls
-    → ((file : List ℕ) → old.content ≡ Some file → len ≡ length file → take 8 file ≡ mark) → EndAnswers len mid new result → ChainAnswers len old new result
-chain_answers len old mid new (Ok end) long same first head a = (
-  a.0,
-  if_some old.content _ (λ file told is.
-      let e = at_some mid.content file (λ f. len ≡ length f → EndsAt f end × (new.calls ≡ added mid.calls (gates_read f end))) (same ∙ told) a.1 is in
-      (head file told is, e.0, e.1 ∙ ap (λ n. added n (gates_read file end)) first ∙ added_twice old.calls 1 (gates_read file end))),
-)
-chain_answers len old mid new (Err Fault) long same first head a = tt
-chain_answers len old mid new (Err (BadChain p)) long same first head a =
-    if_some old.content _ (λ file told is. marked_file file (omega arith) (head file told is) ∙ at_some mid.content file (λ f. len ≡ length f → chain_of f ≡ bad_chain p) (same ∙ told) a is)
-chain_answers len old mid new (Err Shut) long same first head a = absurd a
-chain_answers len old mid new (Err BadHead) long same first head a = absurd a
-chain_answers len old mid new (Err (BadLength n)) long same first head a = absurd a
-chain_answers len old mid new (Err (Full n)) long same first head a = absurd a
-chain_answers len old mid new (Err Memory) long same first head a = absurd a

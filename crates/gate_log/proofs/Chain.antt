@@ -1,12 +1,7 @@
 -- What the chain of a file says, record by record.
-use Rattle.std.proofs.Common.{◌≡◌, ◌≢◌, ◌≤◌, ℕ, suc, zero, Bool, true, false, ◌&&◌, nat_le, List, [], ◌∷◌, length, refl, arith, slice_index}
+use Rattle.std.proofs.Common.{◌≡◌, ◌≢◌, ◌≤◌, ℕ, suc, zero, Bool, true, false, ◌&&◌, nat_le, List, [], length, refl, arith, slice_index}
 use Rattle.std.proofs.lemmas.Bool.Decides.{nat_tests}
 use Rattle.gate_log.specs.LogFile.{longest_body, holds, bad_chain, is_open, length_at, next_place, body_at, is_whole, preceded_by, chain_from, IsRecord}
-
--- the chain goes from a place over these bodies to an end
-abbrev pub Walks : List ℕ → ℕ → List (List ℕ) → ℕ → Type 0
-Walks bytes place [] end = place ≡ end
-Walks bytes place (body ∷ bodies) end = IsRecord bytes (length bytes) place × (body ≡ body_at bytes place) × Walks bytes (next_place bytes place) bodies end
 
 pub closed_test : (bytes : List ℕ) (place : ℕ) → slice_index bytes place ≢ 1 → is_open bytes place ≡ false
 closed_test bytes place ne = grind (arith, nat_tests)

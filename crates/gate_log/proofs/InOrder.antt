@@ -3,10 +3,9 @@ use Rattle.std.proofs.Common.{◌≡◌, ◌≤◌, ℕ, List, [], ◌∷◌, �
 use Rattle.std.proofs.lemmas.List.Sums.{sum_by_push}
 use Rattle.gate_log.specs.declared.fault.LogFault.{LogFault}
 use Rattle.gate_log.specs.declared.fault.LogFault.TheVariants.{Fault, BadHead, BadChain, Shut, BadLength, Full, Memory}
-use Rattle.gate_log.specs.LogFile.{length_at, next_place, body_at, bodies_of, record_length, end_place, IsAtRest, IsRecord}
+use Rattle.gate_log.specs.LogFile.{length_at, next_place, body_at, bodies_of, record_length, end_place, IsAtRest, IsRecord, Walks}
 use Rattle.gate_log.specs.GateLog.{ReadAnswers, PlaceAnswers, FindsBody}
 use Rattle.gate_log.proofs.Fetch.{at_some}
-use Rattle.gate_log.proofs.Chain.{Walks}
 use Rattle.gate_log.proofs.Walk.{length-body_at, walk_at}
 use Rattle.gate_log.proofs.Rest.{rest_walk}
 

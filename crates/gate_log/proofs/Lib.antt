@@ -3,11 +3,13 @@ mod Appending
 mod Appends
 mod Begin
 mod Chain
+pub mod Come
 mod Counts
 mod Examples
 mod Fetch
 mod Follow
 mod InOrder
+mod Onward
 mod Rest
 mod Starts
 mod Steps

@@ -5,8 +5,7 @@ use Rattle.std.specs.Int.{w32, from_be_bytes}
 use Rattle.std.proofs.lemmas.Bool.Decides.{nat_tests}
 use Rattle.std.proofs.lemmas.List.{drop-take, take-take, get_or-take}
 use Rattle.std.proofs.lemmas.Slice.Eq.{bytes_eq-Decides}
-use Rattle.gate_log.specs.LogFile.{mark, holds, bad_head, bad_chain, length_at, next_place, body_at, chain_from, contents_of, StandsFor, bodies_in, end_place, IsAtRest, IsRecord}
-use Rattle.gate_log.proofs.Chain.{Walks}
+use Rattle.gate_log.specs.LogFile.{mark, holds, bad_head, bad_chain, length_at, next_place, body_at, chain_from, contents_of, StandsFor, bodies_in, end_place, IsAtRest, IsRecord, Walks}
 use Rattle.gate_log.proofs.Walk.{follow, walk_says, walk_end}
 
 pub le_or_lt : (m n : ℕ) → (m ≤ n) ⊎ (n < m)

@@ -3,9 +3,8 @@ use Rattle.std.proofs.Common.{◌≡◌, ◌≢◌, ◌⊎◌, inl, inr, ◌<◌
 use Rattle.std.proofs.lemmas.Bool.{cases_eq}
 use Rattle.std.proofs.lemmas.List.{take_all, take-take, drop_all, get_or_at}
 use Rattle.disk_base.specs.Disk.{IsTorn, overwritten}
-use Rattle.gate_log.specs.LogFile.{longest_body, mark, holds, bad_chain, chain_from, chain_of, contents_of, StandsFor, bodies_in, bodies_of, end_place, IsAtRest, IsRecord, record_behind, IsStaged, IsSameOrOpen}
+use Rattle.gate_log.specs.LogFile.{longest_body, mark, holds, bad_chain, chain_from, chain_of, contents_of, StandsFor, bodies_in, bodies_of, end_place, IsAtRest, IsRecord, record_behind, IsStaged, IsSameOrOpen, Walks}
 use Rattle.gate_log.specs.GateLog.{EndsAt}
-use Rattle.gate_log.proofs.Chain.{Walks}
 use Rattle.gate_log.proofs.Walk.{follow, walk_breaks, walk_end}
 use Rattle.gate_log.proofs.Rest.{le_or_lt, short_file, marked_file, from_holds, walk_agrees, walk_rest, rest_behind}
 use Rattle.gate_log.proofs.Append.{staged, opened, not_opened, either}

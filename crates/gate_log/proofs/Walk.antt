@@ -5,8 +5,8 @@ use Rattle.std.proofs.lemmas.Bool.{cases_eq}
 use Rattle.std.proofs.lemmas.Bool.Decides.{nat_tests}
 use Rattle.std.proofs.lemmas.List.Sums.{sum_by-cons}
 use Rattle.std.proofs.lemmas.List.{get_or_past}
-use Rattle.gate_log.specs.LogFile.{longest_body, holds, bad_chain, is_open, length_at, next_place, body_at, preceded_by, chain_from, record_length, IsRecord}
-use Rattle.gate_log.proofs.Chain.{Walks, at_record, at_closed, at_broken}
+use Rattle.gate_log.specs.LogFile.{longest_body, holds, bad_chain, is_open, length_at, next_place, body_at, preceded_by, chain_from, record_length, IsRecord, Walks}
+use Rattle.gate_log.proofs.Chain.{at_record, at_closed, at_broken}
 
 pub record_or_none : (bytes : List ℕ) (end place : ℕ) → slice_index bytes place ≡ 1 → IsRecord bytes end place ⊎ (IsRecord bytes end place → ⊥)
 record_or_none bytes end place e = go (nat_le 1 (length_at bytes place)) (nat_le (length_at bytes place) longest_body) (nat_le (next_place bytes place) end) refl refl refl

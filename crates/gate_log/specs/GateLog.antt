@@ -1,9 +1,10 @@
 -- What a log is seen as, and what its calls answer.
-use Rattle.std.specs.Prelude.{◌≡◌, ◌≢◌, ◌⊎◌, ℕ, ◌<◌, ◌≤◌, ◌+◌, ◌-◌, List, Option, Some, None, Result, Ok, Err, length, slice_index, slice_range, if◌then◌else◌, nat_lt, OnOk, IfOk, IfErr, IfSome, IsSome, IsSomeAnd, take, [], ◌∷◌, ◌++◌}
+use Rattle.std.specs.Prelude.{true, nat_le, ◌≡◌, ◌≢◌, ◌⊎◌, ℕ, ◌<◌, ◌≤◌, ◌+◌, ◌-◌, List, Option, Some, None, Result, Ok, Err, length, slice_index, slice_range, if◌then◌else◌, nat_lt, OnOk, IfOk, IfErr, IfSome, IsSome, IsSomeAnd, take, [], ◌∷◌, ◌++◌}
 use Rattle.disk_base.specs.Faults.{added, one_more, Rose}
 use Rattle.disk_base.specs.Disk.{Images, FileView, LeavesExactly, AtEachMoment, Lasts, CallsUpTo, OnlyReads, IsTorn, overwritten}
-use Rattle.gate_log.specs.LogFile.{mark, longest_body, longest_file, contents_of, holds, bad_head, bad_chain, is_open, length_at, next_place, body_at, chain_of, IsRecord, is_body_length, bodies_in, bodies_of, end_place, IsAtRest, IsBeforeOrAfter, IsSameOrOpen, open_record, started_file, start_calls}
+use Rattle.gate_log.specs.LogFile.{mark, longest_body, longest_file, contents_of, holds, bad_head, bad_chain, is_open, length_at, next_place, body_at, chain_of, IsRecord, is_body_length, bodies_in, bodies_of, end_place, IsAtRest, IsBeforeOrAfter, IsSameOrOpen, open_record, started_file, start_calls, Walks}
 use Rattle.gate_log.specs.declared.device.Gate.{Gate}
+use Rattle.gate_log.specs.declared.start.Cursor.{Cursor}
 use Rattle.gate_log.specs.declared.fault.LogFault.{LogFault}
 use Rattle.gate_log.specs.declared.fault.LogFault.TheVariants.{Fault, Shut, BadHead, BadChain, BadLength, Full, Memory}
 
@@ -89,6 +90,79 @@ pub record StartsWith {T : Type 0} (file : List ℕ) (old new : LogView) (result
 -- the same where the file tells its bytes
 abbrev pub Starts : {T : Type 0} → LogView → LogView → Result T LogFault → Type 0
 Starts old new result = IfSome old.file.content (λ file. StartsWith file old new result)
+
+-- ---- a start, record by record
+
+-- How far a start has come in a file with these bytes: behind the mark their chain goes over these bodies up to the
+-- cursor's place, and a closed gate that was found there stands inside the file.
+pub record HasCome (file : List ℕ) (bodies : List (List ℕ)) (cursor : Cursor) : Type 0 where
+  pub len_is : cursor.len ≡ length file
+  pub head : 9 < length file → take 8 file ≡ mark
+  pub walks : Walks file 8 bodies cursor.place
+  pub closed : cursor.is_closed ≡ true → (cursor.place < length file) × (slice_index file cursor.place ≢ 1)
+
+-- a start has come over some bodies of a file, which a crash leaves as it is
+pub record IsUnder (cursor : Cursor) (images : Images) (file : List ℕ) : Type 0 where
+  pub read : List (List ℕ)
+  pub come : HasCome file read cursor
+  pub exactly : LeavesExactly file images
+
+-- How many calls of a start lie behind a cursor that has come over so many bodies: it synced and asked for the length,
+-- and it read the mark, the gate of each body and the closed one that it found.
+abbrev pub calls_before : Cursor → ℕ → ℕ
+calls_before cursor count = if nat_le cursor.len 9 then 2 else (if cursor.is_closed then 4 + count else 3 + count)
+
+-- what the beginning of a start answers, by what the file says
+abbrev pub BeginAnswers : Option (List ℕ) → Result Cursor LogFault → Type 0
+BeginAnswers content (Ok cursor) = IfSome content (λ file. HasCome file [] cursor)
+BeginAnswers content (Err BadHead) = IfSome content (λ file. contents_of file ≡ bad_head)
+BeginAnswers content (Err Fault) = Unit {0}
+BeginAnswers content (Err Memory) = Unit {0}
+BeginAnswers content (Err _) = ⊥
+
+-- How a log stands then: want of memory leaves it as it was, and else it is shut. At Ok the cursor keeps where it ended, the
+-- start may go on from the cursor, and the log may be left as it was.
+abbrev pub BeginEnds : LogView → LogView → Result Cursor LogFault → Type 0
+BeginEnds old new (Ok cursor) =
+    (new.end ≡ None) × (cursor.before ≡ old.end) × (new.file.calls ≡ added old.file.calls (calls_before cursor 0))
+    × IfSome new.file.content (IsUnder cursor new.file.images) × IsSettled new.file cursor.before
+BeginEnds old new (Err Memory) = new.end ≡ old.end
+BeginEnds old new (Err _) = new.end ≡ None
+
+-- how a cursor goes on, whatever the file tells: over a body that may be one, to a closed gate, or not at all
+abbrev pub StepsOn : Cursor → Cursor → Result (Option (ℕ × List ℕ)) LogFault → Type 0
+StepsOn old new (Ok (Some (place, body))) =
+    (place ≡ old.place) × (1 ≤ length body) × (length body ≤ longest_body) × (new ≡ record old { place = place + 5 + length body }) × (new.place ≤ old.len)
+StepsOn old new (Ok None) = new ≡ record old { is_closed = new.is_closed }
+StepsOn old new (Err (BadChain place)) = (place ≡ old.place) × (new ≡ old)
+StepsOn old new (Err Fault) = new ≡ old
+StepsOn old new (Err Memory) = new ≡ old
+StepsOn old new (Err _) = ⊥
+
+-- where it has come over these bodies: the next body at its place, or that the file stands for them, or that its chain breaks
+abbrev pub ComesOn : List ℕ → List (List ℕ) → Cursor → Result (Option (ℕ × List ℕ)) LogFault → Type 0
+ComesOn file read new (Ok (Some (place, body))) = (place ≡ end_place read) × HasCome file (read ++ body ∷ []) new
+ComesOn file read new (Ok None) = (contents_of file ≡ holds read) × HasCome file read new
+ComesOn file read new (Err (BadChain place)) = contents_of file ≡ bad_chain place
+ComesOn file read new (Err _) = Unit {0}
+
+-- a body takes two calls, and its end or a refusal no more
+abbrev pub StepCalls : {T : Type 0} → FileView → FileView → Result (Option T) LogFault → Type 0
+StepCalls old new (Ok (Some _)) = new.calls ≡ added old.calls 2
+StepCalls old new (Ok None) = CallsUpTo 1 old new
+StepCalls old new (Err _) = CallsUpTo 2 old new
+
+-- The end of a start over a file with these bytes, of which these bodies were passed. It is as with a start that came so far.
+pub record FinishesWith {T : Type 0} (cursor : Cursor) (read : List (List ℕ)) (file : List ℕ) (old new : LogView) (result : Result T LogFault) : Type 0 where
+  pub started : OnOk result (HasBodies new (bodies_of file))
+  pub written : OnOk result (new.file.content ≡ Some (started_file file))
+  pub counted : OnOk result (new.file.calls ≡ added old.file.calls (start_calls file - calls_before cursor (length read)))
+  pub says : IsSomeAnd new.file.content (IsSameOrOpen file)
+  pub any_moment : AtEachMoment old.file new.file (λ image. old.file.images image ⊎ IsSameOrOpen file image)
+
+-- the same where the file tells and the start has come over these bodies of it
+abbrev pub Finishes : {T : Type 0} → Cursor → LogView → LogView → Result T LogFault → Type 0
+Finishes cursor old new result = IfSome old.file.content (λ file. (read : List (List ℕ)) → HasCome file read cursor → FinishesWith cursor read file old new result)
 
 -- ---- append
 
@@ -203,12 +277,19 @@ pub record EndsAt (file : List ℕ) (end : ℕ) : Type 0 where
 abbrev pub gates_read : List ℕ → ℕ → ℕ
 gates_read file end = length (bodies_in (chain_of file)) + (if nat_lt end (length file) then 1 else 0)
 
--- where the chain of a file of so many bytes ends; each gate is read by one call
-abbrev pub EndAnswers : ℕ → FileView → FileView → Result ℕ LogFault → Type 0
-EndAnswers len old new (Ok end) = (end ≤ len) × IfSome old.content (λ file. len ≡ length file → EndsAt file end × (new.calls ≡ added old.calls (gates_read file end)))
-EndAnswers len old new (Err (BadChain place)) = IfSome old.content (λ file. len ≡ length file → chain_of file ≡ bad_chain place)
-EndAnswers len old new (Err Fault) = Unit {0}
-EndAnswers len old new (Err _) = ⊥
+-- The chain was followed from behind these bodies to its end. Each gate is read by one call.
+pub record FollowsTo (read : List (List ℕ)) (file : List ℕ) (end : ℕ) (old new : FileView) : Type 0 where
+  pub inside : end ≤ length file
+  pub ends : EndsAt file end
+  pub few : length read ≤ gates_read file end
+  pub counted : new.calls ≡ added old.calls (gates_read file end - length read)
+
+-- where the chain of a file of so many bytes ends, followed from a place to which it goes over these bodies
+abbrev pub EndAnswers : ℕ → ℕ → FileView → FileView → Result ℕ LogFault → Type 0
+EndAnswers from len old new (Ok end) = IfSome old.content (λ file. len ≡ length file → (read : List (List ℕ)) → Walks file 8 read from → FollowsTo read file end old new)
+EndAnswers from len old new (Err (BadChain place)) = IfSome old.content (λ file. len ≡ length file → (read : List (List ℕ)) → Walks file 8 read from → chain_of file ≡ bad_chain place)
+EndAnswers from len old new (Err Fault) = Unit {0}
+EndAnswers from len old new (Err _) = ⊥
 
 -- so many bytes from a place on, or nothing where the file ends before them
 abbrev pub PieceAnswers : ℕ → ℕ → FileView → FileView → Result (Option (List ℕ)) LogFault → Type 0
@@ -231,15 +312,6 @@ abbrev pub UnlessFault : LogFault → Type 0 → Type 0
 UnlessFault Fault claim = Unit {0}
 UnlessFault _ claim = claim
 
--- what the reading of mark and chain of such a file answers; the mark is read by one call
-abbrev pub ChainAnswers : ℕ → FileView → FileView → Result ℕ LogFault → Type 0
-ChainAnswers len old new (Ok end) =
-    (end ≤ len) × IfSome old.content (λ file. len ≡ length file → (take 8 file ≡ mark) × EndsAt file end × (new.calls ≡ added old.calls (1 + gates_read file end)))
-ChainAnswers len old new (Err BadHead) = IfSome old.content (λ file. len ≡ length file → contents_of file ≡ bad_head)
-ChainAnswers len old new (Err (BadChain place)) = IfSome old.content (λ file. len ≡ length file → contents_of file ≡ bad_chain place)
-ChainAnswers len old new (Err Fault) = Unit {0}
-ChainAnswers len old new (Err _) = ⊥
-
 -- A write at a place of a file with these bytes, and a sync: at Ok the bytes stand there for good, and a crash at any
 -- moment leaves a file in which any part of the write was done.
 pub record IsThrough {T E : Type 0} (at : ℕ) (bytes was : List ℕ) (old new : FileView) (result : Result T E) : Type 0 where
@@ -252,10 +324,20 @@ WritesThrough at bytes old new result = IfSome old.content (λ was. IsThrough at
 
 -- The file is settled, and how long it is. That takes two calls.
 abbrev pub SettleAnswers : FileView → FileView → Result ℕ LogFault → Type 0
-SettleAnswers old new (Ok len) = (9 ≤ new.room) × (2 ≤ new.spare) × (new.calls ≡ added old.calls 2) × IfSome old.content (λ bytes. (len ≡ length bytes) × LeavesExactly bytes new.images)
+SettleAnswers old new (Ok len) = (new.calls ≡ added old.calls 2) × IfSome old.content (λ bytes. (len ≡ length bytes) × LeavesExactly bytes new.images)
 SettleAnswers old new (Err Fault) = Unit {0}
 SettleAnswers old new (Err Memory) = Unit {0}
 SettleAnswers old new (Err _) = ⊥
+
+-- The file is settled, how long it is, and that it begins with the mark where it is long enough. The mark is read by one call.
+abbrev pub OpenAnswers : FileView → FileView → Result ℕ LogFault → Type 0
+OpenAnswers old new (Ok len) =
+    (new.calls ≡ added old.calls (if nat_le len 9 then 2 else 3))
+    × IfSome old.content (λ file. (len ≡ length file) × (9 < length file → take 8 file ≡ mark) × LeavesExactly file new.images)
+OpenAnswers old new (Err BadHead) = IfSome old.content (λ file. contents_of file ≡ bad_head)
+OpenAnswers old new (Err Fault) = Unit {0}
+OpenAnswers old new (Err Memory) = Unit {0}
+OpenAnswers old new (Err _) = ⊥
 
 -- the write of a start over a file with these bytes, which makes it the file of a log that ends at this place
 pub record WritesStart {T E : Type 0} (file : List ℕ) (end : ℕ) (old new : FileView) (result : Result T E) : Type 0 where
@@ -277,10 +359,16 @@ pub record IsStart (before : ℕ) (file : List ℕ) (old new : FileView) (result
 
 -- What a start answers, that it writes nothing where it gives up for another cause than a fault, and what it does to a
 -- file that tells.
-pub record StartsOver (before : ℕ) (old new : FileView) (result : Result ℕ LogFault) : Type 0 where
+pub record StartsOver (old new : FileView) (result : Result ℕ LogFault) : Type 0 where
   pub answer : StartAnswers old.content result
   pub unwritten : IfErr result (λ fault. UnlessFault fault (OnlyReads old new))
-  pub told : IfSome old.content (λ file. IsStart before file old new result)
+  pub told : IfSome old.content (λ file. IsStart 0 file old new result)
+
+-- the same from a cursor on
+pub record FinishesOver (cursor : Cursor) (old new : FileView) (result : Result ℕ LogFault) : Type 0 where
+  pub answer : StartAnswers old.content result
+  pub unwritten : IfErr result (λ fault. UnlessFault fault (OnlyReads old new))
+  pub told : IfSome old.content (λ file. (read : List (List ℕ)) → HasCome file read cursor → IsStart (calls_before cursor (length read)) file old new result)
 
 -- an append of a body at a place, over a file with these bytes and bodies
 pub record IsAppend {T E : Type 0} (bodies : List (List ℕ)) (body : List ℕ) (place : ℕ) (was : List ℕ) (old new : FileView) (result : Result T E) : Type 0 where

@@ -105,6 +105,11 @@ pub record IsRecord (file : List ℕ) (end place : ℕ) : Type 0 where
   pub not_long : length_at file place ≤ longest_body
   pub inside : next_place file place ≤ end
 
+-- the chain goes from a place over these bodies up to another place
+abbrev pub Walks : List ℕ → ℕ → List (List ℕ) → ℕ → Type 0
+Walks bytes place [] end = place ≡ end
+Walks bytes place (body ∷ bodies) end = IsRecord bytes (length bytes) place × (body ≡ body_at bytes place) × Walks bytes (next_place bytes place) bodies end
+
 -- behind the gate of a record: the length of its body, the body and a closed gate, and then other bytes
 abbrev pub record_behind : List ℕ → List ℕ → List ℕ
 record_behind body rest = to_be_bytes w32 (length body) ++ (body ++ 0 ∷ rest)

@@ -89,13 +89,13 @@ pub fn find_next<E: Extent>(file: &mut E, place: u64, end: u64) -> Result<Option
     Ok(Some(place + 5 + gate.count))
 }
 
-// Follows the chain of a file of so many bytes to where it ends.
-pub fn find_end<E: Extent>(file: &mut E, len: u64) -> Result<u64, LogFault>
+// Follows the chain of a file of so many bytes from one of its places to where it ends.
+pub fn find_end<E: Extent>(file: &mut E, from: u64, len: u64) -> Result<u64, LogFault>
     requires { 8 ≤ len }
     ensures reads { LogReads (E.seen file.old) (E.seen file.new) result }
-    ensures answer { EndAnswers len (E.seen file.old) (E.seen file.new) result }
+    ensures answer { EndAnswers from len (E.seen file.old) (E.seen file.new) result }
 {
-    let mut place = FIRST;
+    let mut place = from;
     while place < len {
         match find_next(file, place, len)? {
             None => return Ok(place),

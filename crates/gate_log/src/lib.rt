@@ -7,8 +7,10 @@
 //! Each error has its cause: `Fault` comes only where the file's count of faults rose in that call, and the
 //! others come exactly where the file's bytes, the body's length or the log's end say so.
 //!
-//! Public: `GateLog` with `over`, `start`, `append`, `read`, `first`, `end` and `into_file`; `LogFault`; the
-//! laws `nothing_counts_behind_a_closed_gate` and `the_gate_alone_adds_a_body`.
+//! A start that hands out each body, and so reads each byte once, goes by a `Cursor`.
+//!
+//! Public: `GateLog` with `over`, `start`, `begin`, `next`, `finish`, `leave`, `append`, `read`, `first`, `end`
+//! and `into_file`; `Cursor`; `LogFault`; the laws `nothing_counts_behind_a_closed_gate` and `the_gate_alone_adds_a_body`.
 #![tactic(auto)]
 
 mod device;
@@ -23,3 +25,4 @@ mod tests;
 pub use fault::LogFault;
 pub use laws::{nothing_counts_behind_a_closed_gate, the_gate_alone_adds_a_body};
 pub use log::GateLog;
+pub use start::Cursor;

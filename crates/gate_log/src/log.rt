@@ -1,13 +1,13 @@
 //! The log itself.
 
-ghost use Rattle.std.specs.Prelude.{◌≡◌, None, [], length};
+ghost use Rattle.std.specs.Prelude.{◌≡◌, ℕ, List, None, [], length, IfSome};
 ghost use Rattle.gate_log.specs.LogFile.{end_place};
-ghost use Rattle.gate_log.specs.GateLog.{shown, IsSettled, IfStarted, LogCall, LogReads, StartAnswers, StartEnds, Starts, refusal_of, IsRefused, AppendAnswers, Appends, ReadCalls, ReadAnswers, FindsInOrder};
+ghost use Rattle.gate_log.specs.GateLog.{shown, IsSettled, IfStarted, LogCall, LogReads, StartAnswers, StartEnds, Starts, HasCome, IsUnder, BeginAnswers, BeginEnds, StepsOn, ComesOn, StepCalls, Finishes, refusal_of, IsRefused, AppendAnswers, Appends, ReadCalls, ReadAnswers, FindsInOrder};
 
 use crate::LogFault;
 use crate::device::{FIRST, LONGEST_BODY};
 use crate::record::{append_to, read_record};
-use crate::start::start_file;
+use crate::start::{Cursor, finish_file, open_file, read_next, start_file};
 use disk_base::Extent;
 use std::alloc::Global;
 use std::marker::Model;
@@ -75,6 +75,94 @@ impl<E: Extent> GateLog<E> {
                 Err(fault)
             }
         }
+    }
+
+    /// Begins a start that reads each byte of the file once, and gives a cursor before its first body:
+    /// settles the file and reads its mark. Until `finish` or `leave` the log is shut, and nothing is written.
+    ///
+    /// # Errors
+    ///
+    /// `BadHead` comes exactly where the file says so, and `Fault` where a call on the file failed; after
+    /// these the log is shut. `Memory` leaves it as it was.
+    pub fn begin(&mut self) -> Result<Cursor, LogFault>
+        ensures reads { LogReads (E.seen self.old.file) (E.seen self.new.file) result }
+        ensures answer { BeginAnswers (E.seen self.old.file).content result }
+        ensures ends { BeginEnds (shown E.seen self.old) (shown E.seen self.new) result }
+    {
+        let before = self.end;
+        match open_file(&mut self.file) {
+            Ok(len) => {
+                self.end = None;
+                Ok(Cursor {
+                    place: FIRST,
+                    len,
+                    is_closed: false,
+                    before,
+                })
+            }
+            Err(LogFault::Memory) => Err(LogFault::Memory),
+            Err(fault) => {
+                self.end = None;
+                Err(fault)
+            }
+        }
+    }
+
+    /// The body at a cursor's place, with the place, and the cursor goes on behind it. `None` where the chain
+    /// ends: the file stands for the bodies that were read. It reads what a gate, a length and a body take.
+    ///
+    /// # Errors
+    ///
+    /// `BadChain` with this place exactly where the file says so, `Fault` where a call on the file failed, and
+    /// `Memory`. None of them moves the cursor, and no answer changes how the log stands.
+    pub fn next(
+        &mut self,
+        alloc: Global,
+        cursor: &mut Cursor,
+    ) -> Result<Option<(u64, Bytes)>, LogFault>
+        ensures reads { LogReads (E.seen self.old.file) (E.seen self.new.file) result }
+        ensures calls { StepCalls (E.seen self.old.file) (E.seen self.new.file) result }
+        ensures same { self.new.end ≡ self.old.end }
+        ensures steps { StepsOn cursor.old cursor.new result }
+        ensures comes { IfSome (E.seen self.old.file).content (λ file. (read : List (List ℕ)) → HasCome file read cursor.old → ComesOn file read cursor.new result) }
+    {
+        read_next(&mut self.file, alloc, cursor)
+    }
+
+    /// Ends a start: follows what the cursor has left of the chain by its gates alone, and writes what `start`
+    /// writes. At Ok the log has the bodies that the file's bytes stand for.
+    ///
+    /// # Errors
+    ///
+    /// `BadChain` comes exactly where the file says so, and `Fault` where a call on the file failed; after
+    /// these the log is shut. So it is after `Memory`, and then `leave` gives it back as it was. Nothing is
+    /// written before any of them but `Fault`.
+    pub fn finish(&mut self, cursor: &Cursor) -> Result<(), LogFault>
+        requires { IfSome (E.seen self.old.file).content (IsUnder cursor.now (E.seen self.old.file).images) }
+        ensures call { LogCall (E.seen self.old.file) (E.seen self.new.file) result }
+        ensures answer { StartAnswers (E.seen self.old.file).content result }
+        ensures ends { StartEnds (shown E.seen self.old) (shown E.seen self.new) result }
+        ensures finishes { Finishes cursor.now (shown E.seen self.old) (shown E.seen self.new) result }
+    {
+        match finish_file(&mut self.file, cursor) {
+            Ok(end) => {
+                self.end = Some(end);
+                Ok(())
+            }
+            Err(LogFault::Memory) => Err(LogFault::Memory),
+            Err(fault) => {
+                self.end = None;
+                Err(fault)
+            }
+        }
+    }
+
+    /// Gives up a start that has written nothing: the log is as it was before `begin`.
+    pub fn leave(&mut self, cursor: &Cursor)
+        requires { IsSettled (E.seen self.old.file) cursor.now.before }
+        ensures { self.new ≡ record { file = self.old.file; end = cursor.now.before } }
+    {
+        self.end = cursor.before;
     }
 
     /// Adds a body of 1 to 4,194,400 bytes at the log's end, and answers its place.

@@ -44,7 +44,7 @@ pub fn append_to<E: Extent>(
 }
 
 // Reads so many bytes from a place on. `None` is a file that ends before them.
-fn read_exactly<E: Extent>(
+pub fn read_exactly<E: Extent>(
     file: &mut E,
     alloc: Global,
     at: u64,

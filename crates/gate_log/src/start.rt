@@ -1,13 +1,29 @@
 //! How a log is started over a file.
 
-ghost use Rattle.std.specs.Prelude.{◌≡◌, ◌<◌, ◌≤◌, length, take, IfSome};
-ghost use Rattle.disk_base.specs.Disk.{LeavesExactly, Calls};
+ghost use Rattle.std.specs.Prelude.{◌≡◌, ◌<◌, ◌≤◌, ℕ, List, length, take, IfSome};
+ghost use Rattle.disk_base.specs.Disk.{LeavesExactly};
 ghost use Rattle.gate_log.specs.LogFile.{mark};
-ghost use Rattle.gate_log.specs.GateLog.{LogCall, LogReads, SettleAnswers, EndsAt, ChainAnswers, WriteAnswers, StartWrites, StartsOver};
+ghost use Rattle.gate_log.specs.GateLog.{LogCall, LogReads, SettleAnswers, OpenAnswers, EndsAt, HasCome, IsUnder, StepsOn, ComesOn, StepCalls, WriteAnswers, StartWrites, StartsOver, FinishesOver};
 
 use crate::LogFault;
-use crate::device::{EMPTY, FIRST, find_end, has_mark, write_through};
-use disk_base::{Extent, Failed};
+use crate::device::{EMPTY, FIRST, find_end, find_next, has_mark, write_through};
+use crate::record::read_exactly;
+use disk_base::Extent;
+use std::alloc::Global;
+use unit_id::Bytes;
+
+/// How far a start has come in the file of a log. Places and lengths are in bytes.
+#[derive(Clone, Copy)]
+pub struct Cursor {
+    /// The place behind the bodies that were read.
+    pub place: u64,
+    /// How long the file is.
+    pub len: u64,
+    /// Whether a closed gate was found at the place.
+    pub is_closed: bool,
+    /// Where the log ended before the start.
+    pub before: Option<u64>,
+}
 
 // Settles what was written before, and answers how long the file is.
 fn settle<E: Extent>(file: &mut E) -> Result<u64, LogFault>
@@ -19,27 +35,56 @@ fn settle<E: Extent>(file: &mut E) -> Result<u64, LogFault>
     Ok(file.len()?)
 }
 
-// Makes a file of at most nine bytes the file of an empty log.
-fn begin_log<E: Extent>(file: &mut E) -> Result<(), Failed>
-    requires short { IfSome (E.seen file.old).content (λ bytes. length bytes ≤ 9) }
-    requires room { 9 ≤ (E.seen file.old).room }
-    requires spare { 2 ≤ (E.seen file.old).spare }
-    ensures calls { Calls 2 (E.seen file.old) (E.seen file.new) result }
-    ensures writes { StartWrites 8 (E.seen file.old) (E.seen file.new) result }
-{
-    write_through(file, 0, &EMPTY)
-}
-
-// Reads the mark and the chain of a file of so many bytes, and answers where the chain ends.
-fn check_chain<E: Extent>(file: &mut E, len: u64) -> Result<u64, LogFault>
-    requires { 9 < len }
+// Settles a file and reads its mark, which at most nine bytes need not have, and answers how long the file is.
+pub fn open_file<E: Extent>(file: &mut E) -> Result<u64, LogFault>
     ensures reads { LogReads (E.seen file.old) (E.seen file.new) result }
-    ensures answer { ChainAnswers len (E.seen file.old) (E.seen file.new) result }
+    ensures answer { OpenAnswers (E.seen file.old) (E.seen file.new) result }
 {
+    let len = settle(file)?;
+    if len <= EMPTY.len() as u64 {
+        return Ok(len);
+    }
     if !has_mark(file)? {
         return Err(LogFault::BadHead);
     }
-    find_end(file, len)
+    Ok(len)
+}
+
+// Reads the body at a cursor's place, and moves the cursor on behind it. `None` is the end of the chain.
+pub fn read_next<E: Extent>(
+    file: &mut E,
+    alloc: Global,
+    cursor: &mut Cursor,
+) -> Result<Option<(u64, Bytes)>, LogFault>
+    ensures reads { LogReads (E.seen file.old) (E.seen file.new) result }
+    ensures calls { StepCalls (E.seen file.old) (E.seen file.new) result }
+    ensures steps { StepsOn cursor.old cursor.new result }
+    ensures comes { IfSome (E.seen file.old).content (λ bytes. (read : List (List ℕ)) → HasCome bytes read cursor.old → ComesOn bytes read cursor.new result) }
+{
+    let place = cursor.place;
+    if cursor.len <= EMPTY.len() as u64 || cursor.is_closed || place >= cursor.len {
+        return Ok(None);
+    }
+    let Some(next) = find_next(file, place, cursor.len)? else {
+        cursor.is_closed = true;
+        return Ok(None);
+    };
+    let Some(body) = read_exactly(file, alloc, place + 5, next - place - 5)? else {
+        return Err(LogFault::BadChain { place });
+    };
+    cursor.place = next;
+    Ok(Some((place, body)))
+}
+
+// Makes a file of at most nine bytes the file of an empty log.
+fn begin_log<E: Extent>(file: &mut E) -> Result<(), LogFault>
+    requires short { IfSome (E.seen file.old).content (λ bytes. length bytes ≤ 9) }
+    ensures call { LogCall (E.seen file.old) (E.seen file.new) result }
+    ensures answer { WriteAnswers 2 (E.seen file.old) (E.seen file.new) result }
+    ensures writes { StartWrites 8 (E.seen file.old) (E.seen file.new) result }
+{
+    file.grow(EMPTY.len() as u64)?;
+    Ok(write_through(file, 0, &EMPTY)?)
 }
 
 // Writes a closed gate at the end of a file of so many bytes, where its chain ends.
@@ -57,19 +102,21 @@ fn close_end<E: Extent>(file: &mut E, len: u64) -> Result<(), LogFault>
     Ok(write_through(file, len, &[0])?)
 }
 
-// Starts a log over a settled file of so many bytes, and answers where it ends.
-fn start_settled<E: Extent>(file: &mut E, len: u64) -> Result<u64, LogFault>
-    requires settled { IfSome (E.seen file.old).content (λ bytes. (len ≡ length bytes) × LeavesExactly bytes (E.seen file.old).images) }
-    requires room { 9 ≤ (E.seen file.old).room }
-    requires spare { 2 ≤ (E.seen file.old).spare }
+// Follows what is left of a chain behind a cursor and closes it, and answers where the log ends.
+pub fn finish_file<E: Extent>(file: &mut E, cursor: &Cursor) -> Result<u64, LogFault>
+    requires { IfSome (E.seen file.old).content (IsUnder cursor.now (E.seen file.old).images) }
     ensures call { LogCall (E.seen file.old) (E.seen file.new) result }
-    ensures starts { StartsOver 2 (E.seen file.old) (E.seen file.new) result }
+    ensures finishes { FinishesOver cursor.now (E.seen file.old) (E.seen file.new) result }
 {
+    let len = cursor.len;
     if len <= EMPTY.len() as u64 {
         begin_log(file)?;
         return Ok(FIRST);
     }
-    let end = check_chain(file, len)?;
+    if cursor.is_closed {
+        return Ok(cursor.place);
+    }
+    let end = find_end(file, cursor.place, len)?;
     if end < len {
         return Ok(end);
     }
@@ -80,8 +127,14 @@ fn start_settled<E: Extent>(file: &mut E, len: u64) -> Result<u64, LogFault>
 // Starts a log over a file, and answers where it ends.
 pub fn start_file<E: Extent>(file: &mut E) -> Result<u64, LogFault>
     ensures call { LogCall (E.seen file.old) (E.seen file.new) result }
-    ensures starts { StartsOver 0 (E.seen file.old) (E.seen file.new) result }
+    ensures starts { StartsOver (E.seen file.old) (E.seen file.new) result }
 {
-    let len = settle(file)?;
-    start_settled(file, len)
+    let len = open_file(file)?;
+    let cursor = Cursor {
+        place: FIRST,
+        len,
+        is_closed: false,
+        before: None,
+    };
+    finish_file(file, &cursor)
 }

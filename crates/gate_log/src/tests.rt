@@ -2,7 +2,9 @@
 
 ghost use Rattle.std.specs.Prelude.{◌≤◌, length};
 
-use crate::{GateLog, LogFault, nothing_counts_behind_a_closed_gate, the_gate_alone_adds_a_body};
+use crate::{
+    Cursor, GateLog, LogFault, nothing_counts_behind_a_closed_gate, the_gate_alone_adds_a_body,
+};
 use disk_base::{Extent, MemFile};
 use std::alloc::Global;
 use std::test::Fail;
@@ -288,5 +290,50 @@ fn a_start_makes_few_calls(rt: HostRuntime) -> Result<(), Fail> {
             );
         }
     }
+    Ok(())
+}
+
+/// The place and the length of the body that a start reads next, or zeros where the chain ends.
+fn step(
+    alloc: Global,
+    log: &mut GateLog<MemFile>,
+    cursor: &mut Cursor,
+) -> Result<(u64, usize), Fail> {
+    match log.next(alloc, cursor)? {
+        Some((place, body)) => Ok((place, body.len())),
+        None => Ok((0, 0)),
+    }
+}
+
+/// What a start reads step by step over the front of the worked file.
+fn steps(alloc: Global, len: usize) -> Result<[(u64, usize); 3], Fail> {
+    let mut log = GateLog::over(file_with(alloc, &TWO[..len.min(22)], &[])?);
+    let mut cursor = log.begin()?;
+    let first = step(alloc, &mut log, &mut cursor)?;
+    let second = step(alloc, &mut log, &mut cursor)?;
+    let third = step(alloc, &mut log, &mut cursor)?;
+    Ok([first, second, third])
+}
+
+/// Where a started log ends after a start was begun, after it was left, and after one was finished.
+fn ends(alloc: Global, len: usize) -> Result<[Option<u64>; 3], Fail> {
+    let mut log = GateLog::over(file_with(alloc, &TWO[..len.min(22)], &[])?);
+    log.start()?;
+    let cursor = log.begin()?;
+    let begun = log.end();
+    log.leave(&cursor);
+    let left = log.end();
+    let again = log.begin()?;
+    log.finish(&again)?;
+    Ok([begun, left, log.end()])
+}
+
+#[test]
+fn a_start_goes_from_body_to_body(rt: HostRuntime) -> Result<(), Fail> {
+    let alloc = rt.alloc();
+    let wants = [(8, 2), (15, 1), (0, 0)];
+    assert_eq!(rt; steps(alloc, 22)?, wants);
+    assert_eq!(rt; steps(alloc, 21)?, wants);
+    assert_eq!(rt; ends(alloc, 22)?, [None, Some(21), Some(21)]);
     Ok(())
 }
