@@ -1,6 +1,5 @@
 -- What the words of a chunk have to do with each other, for those that stand on it.
-use Rattle.std.proofs.Common.{◌≡◌, ◌∙◌, sym, ap, refl, subst, ℕ, false, List, Option, None, Some, IfSome}
-use Rattle.std.specs.FinMap as map
+use Rattle.std.proofs.Common.{◌≡◌, ◌∙◌, ap, refl, subst, ℕ, false, List, Option, None, Some, IfSome}
 use Rattle.unit_id.specs.UnitName.{Name}
 use Rattle.disk_base.specs.Disk.{LeavesExactly}
 use Rattle.shard_record.specs.Rows.{Row, Rows, rows_after, row_at}

@@ -109,7 +109,7 @@ module _ (unit : Name) where
     }
 
     -- for want of memory it is as open as before
-    pub still_open : (kept : KeptRows) (end after : Option ℕ) → FileSettles old new (Err Memory) → (IsSome end → IsSome after) → IsOpen unit kept old end → IsOpen unit kept new after
+    pub still_open : (kept : KeptRows) (end after : Option ℕ) → FileSettles {T = Index} old new (Err Memory) → (IsSome end → IsSome after) → IsOpen unit kept old end → IsOpen unit kept new after
     still_open kept end after settles starts is = record {
       started = starts is.started;
       told = tells_still old.content new.content (Remembers unit kept new.images) tells (λ was told.
@@ -128,7 +128,7 @@ module _ (unit : Name) where
     }
 
     -- the invariant after a start that gave up
-    pub refused_sound : (before after : LogView) (cause : ChunkFault) (was_shut : Bool) (kept : KeptRows) → FileSettles old new (Err cause) → FileEnds before after (Err cause) → (was_shut ≡ false → IsOpen unit kept old before.end) → shut_after cause was_shut ≡ false → IsOpen unit kept new after.end
+    pub refused_sound : (before after : LogView) (cause : ChunkFault) (was_shut : Bool) (kept : KeptRows) → FileSettles {T = Index} old new (Err cause) → FileEnds before after (Err cause) → (was_shut ≡ false → IsOpen unit kept old before.end) → shut_after cause was_shut ≡ false → IsOpen unit kept new after.end
     refused_sound before after Memory was_shut kept settles ends sound is = still_open kept before.end after.end settles ends (sound is)
     refused_sound before after Fault was_shut kept settles ends sound is = absurd (stays_shut is)
     refused_sound before after Shut was_shut kept settles ends sound is = absurd (stays_shut is)

@@ -1,15 +1,12 @@
 -- What the reading of a chunk's records answers.
-use Rattle.std.specs.Prelude.{ℕ, ◌≡◌, Bool, false, List, [], ◌∷◌, ◌++◌, Result, Ok, Err, IfOk}
+use Rattle.std.specs.Prelude.{ℕ, ◌≡◌, Bool, false, List, [], ◌∷◌, ◌++◌, Result, Ok, Err}
 use Rattle.unit_id.specs.UnitName.{Name}
 use Rattle.gate_log.specs.LogFile.{end_place}
-use Rattle.shard_record.specs.Rows.{rows_after}
 use Rattle.shard_record.specs.Spelling.{Spells, unit_of}
 use Rattle.shard_record.specs.declared.record.ShardRecord.{ShardRecord}
 use Rattle.shard_record.specs.declared.record.ShardRecord.TheVariants.{Shard}
 use Rattle.shard_record.specs.declared.record.RecordFault.{RecordFault}
 use Rattle.shard_record.specs.declared.record.RecordFault.TheVariants as record_fault
-use Rattle.chunk_store.specs.Kept.{KeptRows, Index, kept_after}
-use Rattle.chunk_store.specs.Records.{IsNext, AreRecords, Reflects}
 use Rattle.chunk_store.specs.Chunk.{IsDamaged}
 use Rattle.chunk_store.specs.declared.fault.ChunkFault.{ChunkFault}
 use Rattle.chunk_store.specs.declared.fault.ChunkFault.TheVariants.{Fault, Damaged, Spoiled, Memory}
@@ -61,15 +58,7 @@ abbrev pub BodiesInOrder : List (List ℕ) → ℕ → Result (List ℕ × ℕ) 
 BodiesInOrder bodies place result = (before : List (List ℕ)) (body : List ℕ) (after : List (List ℕ)) →
     bodies ≡ before ++ body ∷ after → place ≡ end_place before → BodyAnswers body (end_place (before ++ body ∷ [])) result
 
--- the causes for which a record can't be read, whatever the file tells
-abbrev pub IsReadFault : ChunkFault → Type 0
-IsReadFault Fault = Unit {0}
-IsReadFault (Damaged kept computed) = (body : List ℕ) × IsDamaged body kept computed
-IsReadFault (Spoiled place) = Unit {0}
-IsReadFault Memory = Unit {0}
-IsReadFault _ = ⊥
-
--- the same for a record at this place
+-- the causes for which the shard at a place can't be read, whatever the file tells
 abbrev pub IsShardFault : ℕ → ChunkFault → Type 0
 IsShardFault place Fault = Unit {0}
 IsShardFault place (Damaged kept computed) = (body : List ℕ) × IsDamaged body kept computed
@@ -83,51 +72,3 @@ FindsShard bytes (Ok found) = found ≡ bytes
 FindsShard bytes (Err Fault) = Unit {0}
 FindsShard bytes (Err Memory) = Unit {0}
 FindsShard bytes (Err _) = ⊥
-
--- the body at a place behind the records of others: a further record, or none for a cause
-abbrev pub NextAnswers : Name → List ShardRecord → ℕ → List ℕ → KeptRows → KeptRows → Result ℕ ChunkFault → Type 0
-NextAnswers unit items place body old new (Ok next) =
-    (item : ShardRecord) × IsNext unit (rows_after items) body item × (new ≡ kept_after old place item)
-NextAnswers unit items place body old new (Err (Damaged kept computed)) =
-    IsDamaged body kept computed × ((item : ShardRecord) → IsNext unit (rows_after items) body item → ⊥)
-NextAnswers unit items place body old new (Err (Spoiled at)) =
-    (at ≡ place) × IsUndamaged body × ((item : ShardRecord) → IsNext unit (rows_after items) body item → ⊥)
-NextAnswers unit items place body old new (Err Fault) = Unit {0}
-NextAnswers unit items place body old new (Err Memory) = Unit {0}
-NextAnswers unit items place body old new (Err _) = ⊥
-
--- the body at a place behind records that the rows which are kept reflect
-abbrev pub ReadsNext : Name → List (List ℕ) → ℕ → KeptRows → KeptRows → Result ℕ ChunkFault → Type 0
-ReadsNext unit bodies place old new result = (before : List (List ℕ)) (body : List ℕ) (after : List (List ℕ)) (items : List ShardRecord) →
-    bodies ≡ before ++ body ∷ after → place ≡ end_place before → old.is_released ≡ (rows_after items).is_released →
-    NextAnswers unit items place body old new result × IfOk result (λ next. next ≡ end_place (before ++ body ∷ []))
-
--- bodies of which the front was read into the rows that are kept, up to a place
-pub record IsRead (unit : Name) (bodies : List (List ℕ)) (place : ℕ) (kept : KeptRows) : Type 0 where
-  pub before : List (List ℕ)
-  pub after : List (List ℕ)
-  pub bodies_are : bodies ≡ before ++ after
-  pub place_is : place ≡ end_place before
-  pub items : List ShardRecord
-  pub records : AreRecords unit before items
-  pub reflects : Reflects unit before kept (rows_after items)
-
--- among bodies the first at which no record of the unit stands
-pub record IsBadAt (unit : Name) (bodies : List (List ℕ)) (place : ℕ) (body : List ℕ) : Type 0 where
-  pub before : List (List ℕ)
-  pub after : List (List ℕ)
-  pub bodies_are : bodies ≡ before ++ body ∷ after
-  pub place_is : place ≡ end_place before
-  pub items : List ShardRecord
-  pub records : AreRecords unit before items
-  pub bad : (item : ShardRecord) → IsNext unit (rows_after items) body item → ⊥
-
--- the rows of bodies, or the first bad one
-abbrev pub RowsAnswers : Name → List (List ℕ) → Result Index ChunkFault → Type 0
-RowsAnswers unit bodies (Ok index) =
-    (items : List ShardRecord) × AreRecords unit bodies items × Reflects unit bodies index.kept (rows_after items)
-RowsAnswers unit bodies (Err (Damaged kept computed)) = (place : ℕ) × (body : List ℕ) × IsBadAt unit bodies place body × IsDamaged body kept computed
-RowsAnswers unit bodies (Err (Spoiled place)) = (body : List ℕ) × IsBadAt unit bodies place body × IsUndamaged body
-RowsAnswers unit bodies (Err Fault) = Unit {0}
-RowsAnswers unit bodies (Err Memory) = Unit {0}
-RowsAnswers unit bodies (Err _) = ⊥

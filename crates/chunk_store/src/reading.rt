@@ -7,10 +7,9 @@ ghost use Rattle.shard_record.specs.Spelling.{Spells, unit_of};
 ghost use Rattle.shard_record.specs.declared.record.ShardRecord.TheVariants.{Shard};
 ghost use Rattle.chunk_store.specs.Chunk.{ChunkCall};
 ghost use Rattle.chunk_store.specs.Records.{StandsAt};
-ghost use Rattle.chunk_store.specs.Reading.{fault_by_record, RecordAnswers, ShardAnswers, IsBodyFault, BodiesInOrder, IsReadFault, IsShardFault, FindsShard, ReadsNext, RowsAnswers};
+ghost use Rattle.chunk_store.specs.Reading.{fault_by_record, RecordAnswers, ShardAnswers, IsBodyFault, BodiesInOrder, IsShardFault, FindsShard};
 
 use crate::ChunkFault;
-use crate::index::RowIndex;
 use disk_base::Extent;
 use gate_log::{GateLog, LogFault};
 use shard_record::{RecordFault, ShardRecord, read};
@@ -28,8 +27,8 @@ fn fault_of(fault: RecordFault, place: u64) -> ChunkFault
     }
 }
 
-// Reads the bytes that stand at a place as a record of the unit.
-fn record_in(
+/// Reads the bytes that stand at a place as a record of the unit.
+pub fn record_in(
     alloc: Global,
     unit: UnitName,
     is_released: bool,
@@ -126,51 +125,4 @@ pub fn read_shard<E: Extent>(
 {
     let (body, _next) = body_at(alloc, log, place)?;
     shard_in(alloc, unit, bid, blob_size, place, body.as_slice())
-}
-
-// Reads the record at a place into the rows, and answers the next place.
-fn read_next<E: Extent>(
-    alloc: Global,
-    log: &mut GateLog<E>,
-    unit: UnitName,
-    place: u64,
-    index: &mut RowIndex,
-) -> Result<u64, ChunkFault>
-    requires { IsSome log.old.end }
-    ensures call { ChunkCall (E.seen log.old.file) (E.seen log.new.file) result }
-    ensures reads { OnlyReads (E.seen log.old.file) (E.seen log.new.file) }
-    ensures same { log.new.end ≡ log.old.end }
-    ensures onward { IfOk result (λ next. (place < next) × IfSome log.old.end (λ end. next ≤ end)) }
-    ensures named { IfErr result IsReadFault }
-    ensures next { IfStarted (shown E.seen log.old) (λ bodies. ReadsNext unit bodies place index.old.kept index.new.kept result) }
-{
-    let (body, next) = body_at(alloc, log, place)?;
-    let item = record_in(alloc, unit, index.is_released(), place, body.as_slice())?;
-    index.reserve(1)?;
-    index.note(&item, place);
-    Ok(next)
-}
-
-/// Reads all records of a log that is started, and answers the rows that they leave.
-pub fn read_rows<E: Extent>(
-    alloc: Global,
-    log: &mut GateLog<E>,
-    unit: UnitName,
-) -> Result<RowIndex, ChunkFault>
-    requires { IsSome log.old.end }
-    ensures call { ChunkCall (E.seen log.old.file) (E.seen log.new.file) result }
-    ensures reads { OnlyReads (E.seen log.old.file) (E.seen log.new.file) }
-    ensures same { log.new.end ≡ log.old.end }
-    ensures named { IfErr result IsReadFault }
-    ensures rows { IfStarted (shown E.seen log.old) (λ bodies. RowsAnswers unit bodies result) }
-{
-    let Some(end) = log.end() else {
-        unreachable!();
-    };
-    let mut index = RowIndex::new(alloc);
-    let mut place = log.first();
-    while place < end {
-        place = read_next(alloc, log, unit, place, &mut index)?;
-    }
-    Ok(index)
 }

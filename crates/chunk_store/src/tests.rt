@@ -1,7 +1,7 @@
 //! Worked rows, calls that fail, lies and bad records, and many rows.
 
 use crate::{Chunk, ChunkFault, Got, Put};
-use disk_base::{Extent, MemFile};
+use disk_base::{Extent, Failed, MemFile, NoMemory};
 use gate_log::GateLog;
 use shard_record::{
     ShardRecord, first_fence_stays, gone_rows_stay_gone, nothing_follows_a_release, write,
@@ -379,10 +379,80 @@ fn finds_many(alloc: Global, call: u64) -> Result<bool, Fail> {
 #[test]
 fn many_rows_are_read_back_once(rt: HostRuntime) -> Result<(), Fail> {
     // The first start makes 4 calls, each put 4 and each get 2. The second start settles the file, asks for its
-    // length, and reads the mark, the gate of each record and the closed one; then each record by 2 calls more.
+    // length and reads the mark. Each record takes two calls, one for its gate and length and one for its body,
+    // and the last one reads the closed gate.
     let before = 4 + (4 + 2) * MANY;
-    let calls = 4 + (1 + 2) * MANY;
+    let calls = 3 + 2 * MANY + 1;
     assert!(rt; finds_many(rt.alloc(), before + calls + 1)?);
     assert!(rt; !finds_many(rt.alloc(), before + calls)?);
+    Ok(())
+}
+
+/// A file that counts the bytes that are read of it.
+#[derive(Drop)]
+struct Counted<E: Extent> {
+    file: E,
+    read: u64,
+}
+
+impl<E: Extent> Extent for Counted<E> {
+    ghost seen = { λ counted. E.seen counted.file };
+
+    ghost is_file = { λ counted. E.is_file counted.file };
+
+    fn len(&mut self) -> Result<u64, Failed> {
+        self.file.len()
+    }
+
+    fn read_at(&mut self, at: u64, out: &mut [u8]) -> Result<usize, Failed> {
+        match self.file.read_at(at, out) {
+            Ok(count) => {
+                self.read = self.read.saturating_add(count as u64);
+                Ok(count)
+            }
+            Err(failed) => Err(failed),
+        }
+    }
+
+    fn grow(&mut self, end: u64) -> Result<(), NoMemory> {
+        self.file.grow(end)
+    }
+
+    fn write_at(&mut self, at: u64, bytes: &[u8]) -> Result<(), Failed> {
+        self.file.write_at(at, bytes)
+    }
+
+    fn sync(&mut self) -> Result<(), Failed> {
+        self.file.sync()
+    }
+}
+
+/// The file of a chunk with so many rows.
+fn file_of_rows(alloc: Global, rows: u64) -> Result<MemFile, Fail> {
+    let mut chunk = started(alloc, MemFile::new(alloc, Vec::new(alloc)))?;
+    for bid in 1..=rows {
+        put(&mut chunk, bid)?;
+    }
+    Ok(chunk.into_file())
+}
+
+/// How many bytes the start of a chunk with so many rows reads, and how long its file is.
+fn read_by_start(alloc: Global, rows: u64) -> Result<(u64, u64), Fail> {
+    let mut file = file_of_rows(alloc, rows)?;
+    let len = file.len()?;
+    let mut chunk = Chunk::over(alloc, Counted { file, read: 0 }, unit(1)?);
+    chunk.start()?;
+    Ok((chunk.into_file().read, len))
+}
+
+#[test]
+fn a_start_reads_each_byte_once(rt: HostRuntime) -> Result<(), Fail> {
+    // The mark has 8 bytes and the closed gate 1. A record of the tests' shard has 5 bytes of gate and length, and
+    // a body of 29 bytes before the 5 of the shard. An empty log's file is known by its length.
+    assert_eq!(rt;
+        read_by_start(rt.alloc(), 3)?,
+        (8 + 3 * 39 + 1, 8 + 3 * 39 + 1)
+    );
+    assert_eq!(rt; read_by_start(rt.alloc(), 0)?, (0, 9));
     Ok(())
 }
