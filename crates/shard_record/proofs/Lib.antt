@@ -1,8 +1,11 @@
 pub mod Faultless
+pub mod Folds
 pub mod Places
+pub mod Powers
 pub mod Remainder
 pub mod RemainderTables
 pub mod RowsExamples
 pub mod RowsKept
 pub mod Spelled
 pub mod TestLists
+pub mod Windows

@@ -15,7 +15,7 @@ times_polynomial (suc zero) (suc zero) a b = refl
 times_polynomial (suc zero) (suc (suc y)) a b = absurd (omega arith)
 times_polynomial (suc (suc x)) y a b = absurd (omega arith)
 
-xor_swap : (p q r s : ℕ) → bit_xor (bit_xor p q) (bit_xor r s) ≡ bit_xor (bit_xor p r) (bit_xor q s)
+pub xor_swap : (p q r s : ℕ) → bit_xor (bit_xor p q) (bit_xor r s) ≡ bit_xor (bit_xor p r) (bit_xor q s)
 xor_swap p q r s =
     xor_assoc p q (bit_xor r s)
     ∙ ap (bit_xor p) (sym (xor_assoc q r s) ∙ ap (λ t. bit_xor t s) (xor_comm q r) ∙ xor_assoc r q s)
@@ -58,7 +58,7 @@ shifted_by-add (suc m) n r =
     ap (λ t. shifted_by t r) e ∙ shifted_by-add m n (shifted r)
 
 -- low bits and the bits above them
-low_xor_high : (n low high : ℕ) → low < 2 ^ n → bit_xor low (high * 2 ^ n) ≡ low + high * 2 ^ n
+pub low_xor_high : (n low high : ℕ) → low < 2 ^ n → bit_xor low (high * 2 ^ n) ≡ low + high * 2 ^ n
 low_xor_high n low high small =
     let whole : bit_xor (0 * 2 ^ n + low) (high * 2 ^ n + 0) ≡ bit_xor 0 high * 2 ^ n + bit_xor low 0 =
     xor_block n 0 high low 0 small (pow_pos n) in
@@ -89,7 +89,7 @@ shifted_by-byte rest byte small =
     xor_shr rest byte 8 ∙ ap (bit_xor (rest / 2 ^ 8)) none ∙ xor_zero_r (rest / 2 ^ 8) in
     ap (bit_xor (shifted_by 8 (bit_xor rest byte % 256))) (sym above) ∙ sym (shifted_by-split 0 (bit_xor rest byte))
 
-remainder-append : (r : ℕ) (xs ys : List ℕ) → remainder r (xs ++ ys) ≡ remainder (remainder r xs) ys
+pub remainder-append : (r : ℕ) (xs ys : List ℕ) → remainder r (xs ++ ys) ≡ remainder (remainder r xs) ys
 unfolding remainder
 remainder-append r [] ys = refl
 remainder-append r (x ∷ xs) ys = remainder-append (shifted_by 8 (bit_xor r x)) xs ys

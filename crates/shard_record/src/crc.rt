@@ -1,9 +1,13 @@
-//! CRC-32 by tables, sixteen bytes at a time.
+//! CRC-32 by tables, sixteen bytes at a time, of what is left once long byte strings are folded.
 
-ghost use Rattle.std.specs.Prelude.{◌≡◌, ◌+◌, ◌*◌, ◌/◌, ◌%◌, ◌^◌, ◌<◌, ◌≤◌, bit_xor, length, slice_index, take};
+ghost use Rattle.std.specs.Prelude.{◌≡◌, ℕ, ◌+◌, ◌*◌, ◌/◌, ◌%◌, ◌^◌, ◌<◌, ◌≤◌, bit_xor, length, slice_index, take};
 ghost use Rattle.shard_record.specs.Crc.{shifted_by, remainder, crc_of};
 
+use crate::folding::{PIECE, REACH, after_piece};
 use crate::tables::TABLES;
+
+/// From how many bytes on folding takes less time than the tables.
+const FOLDED_FROM: usize = 1_536;
 
 /// The remainder of the low byte of `word` with `zeros` zero bytes after it.
 #[inline(always)]
@@ -39,9 +43,8 @@ fn word_at(bytes: &[u8], at: usize) -> u32
 /// `rest`, so those of the others are joined first.
 #[inline(always)]
 fn after_block(rest: u32, bytes: &[u8], at: usize) -> u32
-    requires inside { at + 16 ≤ length bytes.now }
-    requires before { rest ≡ remainder 0xffff_ffff (take at bytes.now) }
-    ensures { result ≡ remainder 0xffff_ffff (take (at + 16) bytes.now) }
+    requires { at + 16 ≤ length bytes.now }
+    ensures { (before : ℕ) → rest ≡ remainder before (take at bytes.now) → result ≡ remainder before (take (at + 16) bytes.now) }
 {
     let third = entries(4, word_at(bytes, at + 8)) ^ entries(0, word_at(bytes, at + 12));
     let second = entries(8, word_at(bytes, at + 4)) ^ third;
@@ -57,13 +60,25 @@ fn after_byte(rest: u32, byte: u8) -> u32
 }
 
 /// The remainder after this many blocks of sixteen bytes.
-fn after_blocks(bytes: &[u8], blocks: usize) -> u32
+pub(crate) fn after_blocks(before: u32, bytes: &[u8], blocks: usize) -> u32
     requires { 16 * blocks ≤ length bytes.now }
-    ensures { result ≡ remainder 0xffff_ffff (take (16 * blocks) bytes.now) }
+    ensures { result ≡ remainder before (take (16 * blocks) bytes.now) }
 {
-    let mut rest = 0xffff_ffff;
+    let mut rest = before;
     for block in 0..blocks {
         rest = after_block(rest, bytes, 16 * block);
+    }
+    rest
+}
+
+/// The remainder after some more bytes.
+fn after_bytes(before: u32, bytes: &[u8]) -> u32
+    ensures { result ≡ remainder before bytes.now }
+{
+    let blocks = bytes.len() / 16;
+    let mut rest = after_blocks(before, bytes, blocks);
+    for at in 16 * blocks..bytes.len() {
+        rest = after_byte(rest, bytes[at]);
     }
     rest
 }
@@ -72,10 +87,13 @@ fn after_blocks(bytes: &[u8], blocks: usize) -> u32
 pub fn crc32(bytes: &[u8]) -> u32
     ensures { result ≡ crc_of bytes.now }
 {
-    let blocks = bytes.len() / 16;
-    let mut rest = after_blocks(bytes, blocks);
-    for at in 16 * blocks..bytes.len() {
-        rest = after_byte(rest, bytes[at]);
+    let mut rest = 0xffff_ffff;
+    let mut left = bytes;
+    while left.len() >= FOLDED_FROM {
+        let blocks = PIECE.min(left.len()) / 16 - REACH / 16;
+        let (piece, behind) = left.split_at(16 * blocks + REACH);
+        rest = after_piece(rest, piece, blocks);
+        left = behind;
     }
-    rest ^ 0xffff_ffff
+    after_bytes(rest, left) ^ 0xffff_ffff
 }

@@ -2,7 +2,8 @@
 //!
 //! A record has one spelling: `write` gives it, `read` answers Ok exactly on spellings and else the
 //! first test that fails, with its fields. `crc32` is the remainder of IEEE 802.3, defined bit by bit
-//! and computed sixteen bytes at a time by tables that are proved right. What rows a list of records
+//! and computed sixteen bytes at a time: long byte strings are folded on lanes into short ones with the
+//! same remainder, and tables that are proved right give that of the rest. What rows a list of records
 //! leaves is a definition alone, in `specs/Rows.antt`, for the layer that keeps rows.
 //!
 //! Public calls: `crc32`, `write`, `read`, `ShardRecord::unit`, and the laws
@@ -11,6 +12,7 @@
 #![tactic(auto)]
 
 mod crc;
+mod folding;
 mod laws;
 mod reading;
 mod record;

@@ -43,6 +43,25 @@ fn sums(rt: HostRuntime) -> Result<(), Fail> {
     Ok(())
 }
 
+/// Whether the sum of so many bytes is the one bit by bit.
+fn is_sum_of(alloc: Global, size: usize) -> Result<bool, Fail> {
+    let mut bytes = Vec::new(alloc);
+    for place in 0..size {
+        bytes.push((place % 253) as u8)?;
+    }
+    Ok(crc32(&bytes) == bit_by_bit(&bytes))
+}
+
+#[test]
+fn sums_of_long_strings(rt: HostRuntime) -> Result<(), Fail> {
+    for size in [
+        1_535, 1_536, 1_537, 1_551, 1_552, 4_095, 4_096, 4_111, 5_631, 5_632, 9_001,
+    ] {
+        assert!(rt; is_sum_of(rt.alloc(), size)?, "{size} bytes");
+    }
+    Ok(())
+}
+
 /// Writes a record and reads it back.
 fn check_spelling(
     rt: &impl Abort,

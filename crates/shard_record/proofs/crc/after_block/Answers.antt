@@ -2,7 +2,7 @@ use Rattle.shard_record.proofs.Remainder.{remainder-block}
 use Rattle.shard_record.proofs.crc.after_block.Goals as goal
 
 pub returns : goal.returns
-returns c =
+returns c before e =
     rw (
       c.entries.ensures,
       c.entries-2.ensures,
@@ -13,4 +13,4 @@ returns c =
       c.word_at-3.ensures,
       c.word_at-4.ensures,
     )
-    (remainder-block 0xFFFF_FFFF c.args.at c.args.rest c.args.bytes.now c.requires.inside (λ k. (c.type_inv.bytes k).fits) c.requires.before)
+    (remainder-block before c.args.at c.args.rest c.args.bytes.now c.requires (λ k. (c.type_inv.bytes k).fits) e)

@@ -3,4 +3,4 @@ use Rattle.shard_record.specs.Crc.{remainder}
 use Rattle.shard_record.proofs.crc.after_blocks.Given as goal
 
 abbrev pub invariant-loop-block : goal.invariant-loop-block
-invariant-loop-block l = l.rest ≡ remainder 0xFFFF_FFFF (take (16 * l.block) l.bytes)
+invariant-loop-block l = l.rest ≡ remainder l.before (take (16 * l.block) l.bytes)

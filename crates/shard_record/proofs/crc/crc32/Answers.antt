@@ -1,17 +1,13 @@
-use Rattle.std.proofs.Common.{ap, bit_xor, length, take, ◌∙◌, ◌≤◌, ◌≡◌, arith}
-use Rattle.std.proofs.lemmas.List.{take_all}
-use Rattle.shard_record.specs.Crc.{remainder, crc_of}
-use Rattle.shard_record.proofs.Remainder.{remainder-more}
+use Rattle.std.proofs.Common.{◌∙◌, ap, bit_xor}
+use Rattle.shard_record.specs.Crc.{crc_of}
+use Rattle.shard_record.proofs.Folds.{split_leaves}
 use Rattle.shard_record.proofs.crc.crc32.Goals as goal
 
-pub loop-at-preserved : goal.loop-at-preserved
-loop-at-preserved c =
-    let more = remainder-more 0xFFFF_FFFF c.loop-at.at c.args.bytes.now c.loop-at-test.true in
-    rw (more, ← c.loop-at.invariant) c.after_byte-rest.ensures
+pub loop-left-preserved : goal.loop-left-preserved
+loop-left-preserved c =
+    split_leaves c.loop-left.rest c.after_piece-rest.result _ c.loop-left.left.now c.split_at.result.0.now c.split_at.result.1.now c.split_at.ensures.front c.split_at.ensures.back c.after_piece-rest.ensures
+    ∙ c.loop-left.invariant
 
 pub returns : goal.returns
 unfolding crc_of
-returns c =
-    let past : length c.args.bytes.now ≤ c.loop-at.at = omega arith in
-    let whole : take c.loop-at.at c.args.bytes.now ≡ c.args.bytes.now = take_all c.loop-at.at c.args.bytes.now past in
-    ap (λ r. bit_xor r 0xFFFF_FFFF) (c.loop-at.invariant ∙ ap (remainder 0xFFFF_FFFF) whole)
+returns c = ap (λ r. bit_xor r 0xFFFF_FFFF) (c.after_bytes.ensures ∙ c.loop-left.invariant)
