@@ -9,3 +9,4 @@ pub mod Polynomials
 pub mod Lagrange
 pub mod Interpolants
 pub mod Stripes
+pub mod Differences

@@ -1,4 +1,5 @@
 pub mod Shards
 pub mod ShardValue
 pub mod RowCache
+pub mod Differences
 pub mod Shape

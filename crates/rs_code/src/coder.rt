@@ -126,7 +126,7 @@ impl Coder {
             data_shards: n,
             parity_shards: m,
             rows: RowCache::make(alloc, cached)?,
-            maker: WeightMaker { made: 0 },
+            maker: WeightMaker::new(alloc),
         })
     }
 

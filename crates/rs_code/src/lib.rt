@@ -11,6 +11,7 @@
 
 mod coder;
 mod interpolate;
+mod known_places;
 pub mod laws;
 mod row_cache;
 mod shards;

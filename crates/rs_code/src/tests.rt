@@ -1,4 +1,4 @@
-ghost use Rattle.std.specs.Prelude.{◌≡◌, length, IfOk};
+ghost use Rattle.std.specs.Prelude.{◌≡◌, ◌+◌, ◌≤◌, length, IfOk};
 ghost use Rattle.rs_code.specs.RowCache.{AllFit};
 ghost use Rattle.rs_code.specs.Shape.{shape};
 
@@ -44,17 +44,24 @@ fn data_shard(alloc: Global, i: u8) -> Result<Bytes, Fail> {
     )
 }
 
-/// The six data shards of the round trips, of nine.
-fn six_of_nine(alloc: Global) -> Result<Shards, Fail>
-    ensures { IfOk result (λ shards. length shards ≡ 9) }
+/// So many data shards of the round trips, the first ones of a set.
+fn data_set(alloc: Global, n: usize, total: usize) -> Result<Shards, Fail>
+    ensures { IfOk result (λ shards. length shards ≡ total) }
 {
-    let mut shards = Shards::make(alloc, 9);
-    put(&mut shards, 0, data_shard(alloc, 0)?)?;
-    put(&mut shards, 1, data_shard(alloc, 1)?)?;
-    put(&mut shards, 2, data_shard(alloc, 2)?)?;
-    put(&mut shards, 3, data_shard(alloc, 3)?)?;
-    put(&mut shards, 4, data_shard(alloc, 4)?)?;
-    put(&mut shards, 5, data_shard(alloc, 5)?)?;
+    let mut shards = Shards::make(alloc, total);
+    for i in 0..n {
+        put(&mut shards, i, data_shard(alloc, (i % 256) as u8)?)?;
+    }
+    Ok(shards)
+}
+
+/// All shards of the round trips.
+fn full_set(alloc: Global, n: usize, m: usize) -> Result<Shards, Fail>
+    requires { n + m ≤ 256 }
+{
+    let mut coder = Coder::new(alloc, n, m, 1)?;
+    let mut shards = data_set(alloc, n, n + m)?;
+    coder.fill(&mut shards)?;
     Ok(shards)
 }
 
@@ -63,64 +70,96 @@ fn keep(
     alloc: Global,
     shards: &mut Shards,
     full: &Shards,
-    index: u8,
+    index: usize,
     dropped: u32,
 ) -> Result<(), Fail>
     ensures { length shards.new ≡ length shards.old }
 {
-    let Some(bytes) = full.get(usize::from(index)) else {
+    let Some(bytes) = full.get(index) else {
         return Ok(());
     };
     if dropped >> (index % 32) & 1 == 1 {
         return Ok(());
     }
-    put(shards, usize::from(index), shard(alloc, bytes)?)
+    put(shards, index, shard(alloc, bytes)?)
 }
 
-/// The shards of a set of nine but for those whose bit in `dropped` is 1.
-fn without(alloc: Global, full: &Shards, dropped: u32) -> Result<Shards, Fail>
-    ensures { IfOk result (λ shards. length shards ≡ 9) }
+/// The shards of a set but for those whose bit in `dropped` is 1.
+fn without(alloc: Global, full: &Shards, total: usize, dropped: u32) -> Result<Shards, Fail>
+    ensures { IfOk result (λ shards. length shards ≡ total) }
 {
-    let mut shards = Shards::make(alloc, 9);
-    keep(alloc, &mut shards, full, 0, dropped)?;
-    keep(alloc, &mut shards, full, 1, dropped)?;
-    keep(alloc, &mut shards, full, 2, dropped)?;
-    keep(alloc, &mut shards, full, 3, dropped)?;
-    keep(alloc, &mut shards, full, 4, dropped)?;
-    keep(alloc, &mut shards, full, 5, dropped)?;
-    keep(alloc, &mut shards, full, 6, dropped)?;
-    keep(alloc, &mut shards, full, 7, dropped)?;
-    keep(alloc, &mut shards, full, 8, dropped)?;
+    let mut shards = Shards::make(alloc, total);
+    for k in 0..total {
+        keep(alloc, &mut shards, full, k, dropped)?;
+    }
     Ok(shards)
 }
 
-/// All nine shards of the round trips.
-fn nine(alloc: Global) -> Result<Shards, Fail> {
-    let mut coder = Coder::new(alloc, 6, 3, 1)?;
-    let mut shards = six_of_nine(alloc)?;
-    coder.fill(&mut shards)?;
-    Ok(shards)
-}
-
-/// Whether the shards that are dropped come back, and the lowest of them alone.
-fn come_back(alloc: Global, full: &Shards, dropped: u32) -> Result<bool, Fail> {
-    let mut coder = Coder::new(alloc, 6, 3, 2)?;
-    let mut shards = without(alloc, full, dropped)?;
-    let lowest = dropped.trailing_zeros() as usize;
-    let rebuilt = coder.rebuild(&shards, lowest.min(8))?;
-    let is_right = full.get(lowest.min(8)) == Some(rebuilt.as_slice());
-    coder.fill(&mut shards)?;
-    Ok(is_right && are_same(&shards, full))
-}
-
-/// Whether two sets have the same nine shards.
-fn are_same(shards: &Shards, others: &Shards) -> bool {
-    for k in 0..9 {
+/// Whether two sets have the same shards, and each of them.
+fn are_same(shards: &Shards, others: &Shards, total: usize) -> bool {
+    for k in 0..total {
         if shards.get(k).is_none() || shards.get(k) != others.get(k) {
             return false;
         }
     }
     true
+}
+
+/// Whether the lowest shard that is dropped comes back alone.
+fn lowest_comes_back(
+    alloc: Global,
+    coder: &mut Coder,
+    full: &Shards,
+    total: usize,
+    dropped: u32,
+) -> Result<bool, Fail>
+    requires { total ≡ coder.old.data_shards + coder.old.parity_shards }
+    ensures { shape coder.new ≡ shape coder.old }
+{
+    let lowest = dropped.trailing_zeros() as usize;
+    if lowest >= total {
+        return Ok(false);
+    }
+    let shards = without(alloc, full, total, dropped)?;
+    let bytes = coder.rebuild(&shards, lowest)?;
+    Ok(full.get(lowest) == Some(bytes.as_slice()))
+}
+
+/// Whether all shards that are dropped come back.
+fn all_come_back(
+    alloc: Global,
+    coder: &mut Coder,
+    full: &Shards,
+    total: usize,
+    dropped: u32,
+) -> Result<bool, Fail>
+    requires { total ≡ coder.old.data_shards + coder.old.parity_shards }
+    ensures { shape coder.new ≡ shape coder.old }
+{
+    let mut shards = without(alloc, full, total, dropped)?;
+    coder.fill(&mut shards)?;
+    Ok(are_same(&shards, full, total))
+}
+
+/// How many choices of dropped shards, as their bits, come back through one coder: alone, and all together.
+fn choices_back(alloc: Global, n: usize, m: usize, cached: usize) -> Result<[u32; 2], Fail> {
+    if n > 6 || m > 3 {
+        return Ok([0, 0]);
+    }
+    let full = full_set(alloc, n, m)?;
+    let mut coder = Coder::new(alloc, n, m, cached)?;
+    let mut back = [0u32; 2];
+    for dropped in 1..512u32 {
+        if dropped >> (n + m) == 0 && dropped.count_ones() as usize <= m {
+            let alone = lowest_comes_back(alloc, &mut coder, &full, n + m, dropped)?;
+            let together = all_come_back(alloc, &mut coder, &full, n + m, dropped)?;
+            back = [
+                back[0].saturating_add(u32::from(alone)),
+                back[1].saturating_add(u32::from(together)),
+            ];
+        }
+    }
+    Ok(back)
 }
 
 /// Three shards of a byte each, from an index on, of six.
@@ -237,11 +276,11 @@ fn refusals_in_their_order(rt: HostRuntime) -> Result<(), Fail> {
 
 #[test]
 fn every_choice_of_dropped_shards_comes_back(rt: HostRuntime) -> Result<(), Fail> {
-    let alloc = rt.alloc();
-    let full = nine(alloc)?;
-    for dropped in 1..512u32 {
-        if dropped.count_ones() <= 3 {
-            assert!(rt; come_back(alloc, &full, dropped)?, "{dropped}");
+    // One, two or three of six are 6 + 15 + 20 choices, and of nine 9 + 36 + 84.
+    for (n, choices) in [(3, 41), (6, 129)] {
+        for cached in [1, 2, 1_000] {
+            let back = choices_back(rt.alloc(), n, 3, cached)?;
+            assert_eq!(rt; back, [choices, choices], "{n} and 3, {cached} rows");
         }
     }
     Ok(())
@@ -249,7 +288,7 @@ fn every_choice_of_dropped_shards_comes_back(rt: HostRuntime) -> Result<(), Fail
 
 #[test]
 fn parity_is_as_computed_elsewhere(rt: HostRuntime) -> Result<(), Fail> {
-    let full = nine(rt.alloc())?;
+    let full = full_set(rt.alloc(), 6, 3)?;
     for (index, want) in [
         (6, [18u8, 15, 49, 9, 108]),
         (7, [49, 87, 72, 51, 131]),

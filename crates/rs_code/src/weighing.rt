@@ -4,13 +4,14 @@ ghost use Rattle.std.specs.Prelude.{◌≡◌, IfOk};
 ghost use Rattle.rs_code.specs.ShardValue.{quotient, weight, weights};
 
 use crate::RowMaker;
+use crate::known_places::KnownPlaces;
 use disk_base::NoMemory;
 use gf256::{inverse, mul};
 use std::alloc::{AllocError, Global};
 use unit_id::Bytes;
 
 /// `a` divided by `b`; 0 where `b` is 0.
-fn divided(a: u8, b: u8) -> u8
+pub(crate) fn divided(a: u8, b: u8) -> u8
     ensures { result ≡ quotient a b }
 {
     match inverse(b) {
@@ -47,6 +48,19 @@ pub fn weights_of(alloc: Global, places: &[u8], r: u8) -> Result<Bytes, AllocErr
 #[derive(Drop)]
 pub struct WeightMaker {
     pub made: u64,
+    known: KnownPlaces,
+}
+
+impl WeightMaker {
+    /// A maker that made none yet. Takes no memory.
+    pub fn new(alloc: Global) -> WeightMaker
+        ensures { result.made ≡ 0 }
+    {
+        WeightMaker {
+            made: 0,
+            known: KnownPlaces::none(alloc),
+        }
+    }
 }
 
 impl RowMaker for WeightMaker {
@@ -58,6 +72,9 @@ impl RowMaker for WeightMaker {
 
     fn make(&mut self, alloc: Global, held: &[u8], want: u8) -> Result<Bytes, NoMemory> {
         self.made = self.made.saturating_add(1);
-        Ok(weights_of(alloc, held, want)?)
+        if !self.known.are(held) {
+            self.known = KnownPlaces::make(alloc, held)?;
+        }
+        Ok(self.known.weights(alloc, want)?)
     }
 }
