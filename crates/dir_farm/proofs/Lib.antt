@@ -1,0 +1,3 @@
+mod FarmLaws
+mod FileLaws
+mod ShelfLaws

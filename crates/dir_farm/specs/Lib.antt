@@ -1,0 +1,3 @@
+pub mod DirFarm
+pub mod DirFile
+pub mod DirShelf
