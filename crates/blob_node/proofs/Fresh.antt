@@ -1,5 +1,5 @@
 -- A unit that was just made.
-use Rattle.std.proofs.Common.{◌≡◌, ◌∙◌, sym, ap, refl, ℕ, true, false, [], Option, None}
+use Rattle.std.proofs.Common.{◌∙◌, sym, ap, refl, ℕ, true, false, [], Option, None}
 use Rattle.std.specs.Prelude.{not, ◌&&◌}
 use Rattle.std.specs.Ordering.{nat_cmp}
 use Rattle.std.specs.FinMap.{get-empty}
@@ -21,7 +21,7 @@ fresh_held seen chunk fresh units place = record {
     fence_is = there_now place None units.fence;
     released = there_now place false units.is_released;
   };
-  shut = there_now place false units.is_shut ∙ sym fresh.open_;
+  shut = λ shut. absurd (never_both chunk.is_shut fresh.open_ shut);
   released = (λ i. not (fresh.open_ i) && chunk.kept.is_released) ∙ (has_kinds (shown seen chunk) [] fresh.sound fresh.open_ fresh.empty).released ∙ sym (there_now place false units.is_released);
   doubted = there_now place None units.doubt;
   doubt_is = refl;

@@ -3,7 +3,6 @@ use Rattle.std.proofs.Common.{◌≡◌, ◌∙◌, sym, ap, refl, subst, ℕ, B
 use Rattle.std.specs.Prelude.{option_map}
 use Rattle.unit_id.specs.Place.{Place}
 use Rattle.disk_base.specs.Disk.{LeavesExactly, OnlyReads}
-use Rattle.shard_record.specs.Rows.{rows_after}
 use Rattle.shard_record.specs.declared.record.ShardRecord.{ShardRecord}
 use Rattle.shard_record.specs.declared.record.ShardRecord.TheVariants.{Shard, Mark, Free, Fence, Release}
 use Rattle.chunk_store.specs.Kept.{KeptRows, row_of, kept_after, kept_after_shard, kept_after_mark, kept_after_free, kept_after_fence}
@@ -14,9 +13,9 @@ use Rattle.chunk_store.specs.declared.index.KeptRow.TheVariants as kept
 use Rattle.chunk_store.proofs.Opened.{told_at}
 use Rattle.chunk_store.proofs.Finding.{some_and}
 use Rattle.unit_id.specs.UnitName.{Name}
-use Rattle.blob_node.specs.Units.{RowState, UnitRecord, Units, with_at, with_record}
+use Rattle.blob_node.specs.Units.{UnitRecord, Units, with_at, with_record}
 use Rattle.blob_node.specs.UnitAnswer.{started}
-use Rattle.blob_node.specs.Holding.{Written, Holds, IsNew, without_bytes, with_item}
+use Rattle.blob_node.specs.Holding.{Written, Holds, IsNew, without_bytes}
 use Rattle.blob_node.proofs.Lookups.{there_now}
 use Rattle.blob_node.proofs.RowsLaws.{more_rows}
 
@@ -38,13 +37,6 @@ record_made place p (UnitRecord.Mark bid) units = refl
 record_made place p (UnitRecord.Free bid) units = refl
 record_made place p (UnitRecord.Fence lock) units = refl
 record_made place p UnitRecord.Release units = refl
-
-pub record_shut : (place p : Place) (r : UnitRecord) (units : Units) → (with_record place r units).is_shut p ≡ units.is_shut p
-record_shut place p (UnitRecord.Shard bid) units = refl
-record_shut place p (UnitRecord.Mark bid) units = refl
-record_shut place p (UnitRecord.Free bid) units = refl
-record_shut place p (UnitRecord.Fence lock) units = refl
-record_shut place p UnitRecord.Release units = refl
 
 pub record_doubt : (place p : Place) (r : UnitRecord) (units : Units) → (with_record place r units).doubt p ≡ units.doubt p
 record_doubt place p (UnitRecord.Shard bid) units = refl
@@ -109,7 +101,7 @@ module _ (old new : ChunkView) (doubt : Option UnitRecord) (flag after : Bool) (
     stays has same = record {
       made = holds.made;
       rows_are = holds.rows_are;
-      shut = there_now place false units.is_shut ∙ sym still;
+      shut = λ shut. absurd (never_both new.is_shut still shut);
       released = same ∙ holds.released;
       doubted = none_there;
       doubt_is = ap (option_map without_bytes) none_written;
@@ -122,7 +114,7 @@ module _ (old new : ChunkView) (doubt : Option UnitRecord) (flag after : Bool) (
     waits has same = record {
       made = holds.made;
       rows_are = holds.rows_are;
-      shut = holds.shut ∙ open_ ∙ sym still;
+      shut = λ shut. absurd (never_both new.is_shut still shut);
       released = same ∙ holds.released;
       doubted = none_there;
       doubt_is = ap (option_map without_bytes) none_written;
@@ -136,7 +128,7 @@ module _ (old new : ChunkView) (doubt : Option UnitRecord) (flag after : Bool) (
     grows item free has same = record {
       made = record_made place place (without_bytes item) (started place units) ∙ holds.made;
       rows_are = more_rows place written.items (started place units) item free holds.rows_are;
-      shut = record_shut place place (without_bytes item) (started place units) ∙ there_now place false units.is_shut ∙ sym still;
+      shut = λ shut. absurd (never_both new.is_shut still shut);
       released = same;
       doubted = record_doubt place place (without_bytes item) (started place units) ∙ none_there;
       doubt_is = ap (option_map without_bytes) none_written;
@@ -150,7 +142,7 @@ module _ (old new : ChunkView) (doubt : Option UnitRecord) (flag after : Bool) (
   doubts item shut free is_new says same = record {
     made = holds.made;
     rows_are = holds.rows_are;
-    shut = there_now place true units.is_shut ∙ sym shut;
+    shut = λ _. there_now place true units.is_shut;
     released = same ∙ holds.released;
     doubted = there_now place (Some (without_bytes item)) units.doubt;
     doubt_is = refl;

@@ -9,3 +9,11 @@ pub mod ReadWork
 pub mod ListWork
 pub mod Settling
 pub mod Fresh
+pub mod Tables
+pub mod Standing
+pub mod Answering
+pub mod Serving
+pub mod NewFiles
+pub mod Creating
+pub mod Handling
+pub mod HandingBack

@@ -1,5 +1,5 @@
 -- What is listed of a unit that is at work.
-use Rattle.std.proofs.Common.{◌≡◌, ◌∙◌, sym, ap, refl, subst, ℕ, zero, suc, ◌<◌, Bool, true, false, List, [], ◌∷◌, Option, None, Some, Result, Ok, Err, inl, inr, length, get_or, arith}
+use Rattle.std.proofs.Common.{◌≡◌, ◌∙◌, sym, ap, refl, subst, ℕ, zero, suc, ◌<◌, false, List, [], ◌∷◌, Option, None, Some, Result, Ok, Err, inl, inr, length, get_or, arith}
 use Rattle.std.specs.Prelude.{◌==◌, ◌||◌, option_map, IsErr}
 use Rattle.std.specs.List.{list_any, AllPairs}
 use Rattle.std.proofs.lemmas.Bool.Decides.{nat_tests}
@@ -10,13 +10,12 @@ use Rattle.unit_id.specs.declared.request.Request.TheVariants as requests
 use Rattle.unit_id.specs.declared.answer.Answer as answered
 use Rattle.unit_id.specs.declared.answer.Answer.TheVariants as answers
 use Rattle.disk_base.specs.Disk.{FileView}
-use Rattle.disk_base.specs.Moments.{reads_none}
-use Rattle.chunk_store.specs.Chunk.{ChunkView, shown, IsSound, HasRecords}
+use Rattle.chunk_store.specs.Chunk.{shown, IsSound}
 use Rattle.chunk_store.specs.Kept.{KeptRows, row_of, kind_of, Lists}
 use Rattle.chunk_store.specs.Kept as keeps
 use Rattle.chunk_store.specs.declared.index.KeptRow.{KeptRow}
 use Rattle.chunk_store.specs.declared.index.KeptRow.TheVariants as kept
-use Rattle.blob_node.specs.Units.{RowState, UnitRecord, Units, is_live, is_deleted}
+use Rattle.blob_node.specs.Units.{UnitRecord, Units, is_live, is_deleted}
 use Rattle.blob_node.specs.UnitAnswer.{Effect, started, AreAscending, IsListing}
 use Rattle.blob_node.specs.Holding.{Written, Holds}
 use Rattle.disk_base.specs.declared.fault.NoMemory.{NoMemory}

@@ -1,24 +1,21 @@
 -- What is read of a unit that is at work.
-use Rattle.std.proofs.Common.{◌≡◌, ◌∙◌, sym, ap, refl, subst, ℕ, Bool, true, false, List, Option, None, Some, Result, Ok, Err}
+use Rattle.std.proofs.Common.{◌≡◌, ◌∙◌, sym, ap, refl, subst, ℕ, false, Option, None, Some, Result, Ok, Err}
 use Rattle.std.specs.Prelude.{option_map, IsErr, not, ◌&&◌, ◌||◌}
 use Rattle.unit_id.specs.Place.{Place}
 use Rattle.unit_id.specs.declared.request.Request.TheVariants as requests
 use Rattle.unit_id.specs.declared.answer.Answer as answered
-use Rattle.unit_id.specs.declared.answer.Answer.TheVariants as answers
 use Rattle.disk_base.specs.Disk.{FileView}
 use Rattle.disk_base.specs.declared.fault.NoMemory.{NoMemory}
 use Rattle.shard_record.specs.Rows.{Row, row_at}
 use Rattle.shard_record.specs.Rows as rows
-use Rattle.chunk_store.specs.Chunk.{ChunkView, shown, HasRecords, IsReadOnly, Gets, got_of}
-use Rattle.chunk_store.specs.Kept.{KeptRows}
+use Rattle.chunk_store.specs.Chunk.{shown, HasRecords, IsReadOnly, Gets, got_of}
 use Rattle.chunk_store.specs.declared.answer.Got.{Got}
 use Rattle.chunk_store.specs.declared.fault.ChunkFault.{ChunkFault}
 use Rattle.chunk_store.specs.declared.fault.ChunkFault.TheVariants as faults
-use Rattle.blob_node.specs.Units.{RowState, UnitRecord, Units}
+use Rattle.blob_node.specs.Units.{UnitRecord, Units}
 use Rattle.blob_node.specs.UnitAnswer.{Effect, started}
 use Rattle.blob_node.specs.Holding.{Written, Holds, state_of}
 use Rattle.blob_node.specs.HeldUnit.{UnitOver, is_released, Held, record_of_doubt, Gives, of_got, WorksOn, WorksBy}
-use Rattle.blob_node.specs.declared.held_unit.Doubt.{Doubt}
 use Rattle.blob_node.proofs.Holdings.{has_still, stays, waits, none_known}
 
 module _ {E : Type 0} (seen : E → FileView) (old new : UnitOver E) (open_ : old.chunk.is_shut ≡ false) (written : Written) (units : Units) (place : Place) (held : Held seen old written units place)

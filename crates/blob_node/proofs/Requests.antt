@@ -1,9 +1,8 @@
 -- The plan of each call on a chunk is what the protocol allows.
-use Rattle.std.proofs.Common.{◌≡◌, ◌∙◌, sym, ap, refl, subst, ℕ, Bool, true, false, List, Option, None, Some, Result, Ok, Err}
-use Rattle.std.specs.Prelude.{◌==◌, if◌then◌else◌, is_some}
+use Rattle.std.proofs.Common.{◌≡◌, ◌∙◌, sym, ap, refl, subst, ℕ, Bool, true, false, List, Option, None, Some, Result}
+use Rattle.std.specs.Prelude.{◌==◌, if◌then◌else◌}
 use Rattle.std.proofs.lemmas.Bool.{eqb-true}
 use Rattle.unit_id.specs.Place.{Place}
-use Rattle.unit_id.specs.UnitName.{Name}
 use Rattle.unit_id.specs.declared.request.Request.TheVariants as requests
 use Rattle.unit_id.specs.declared.answer.Answer as answered
 use Rattle.disk_base.specs.Disk.{FileView}
@@ -18,9 +17,9 @@ use Rattle.chunk_store.specs.declared.fault.ChunkFault.{ChunkFault}
 use Rattle.chunk_store.specs.declared.fault.ChunkFault.TheVariants.{Fenced}
 use Rattle.chunk_store.specs.declared.answer.Put.{Put}
 use Rattle.chunk_store.specs.declared.answer.Put.TheVariants as put
-use Rattle.blob_node.specs.Units.{RowState, Units, is_deleted}
+use Rattle.blob_node.specs.Units.{Units, is_deleted}
 use Rattle.blob_node.specs.Holding.{Written}
-use Rattle.blob_node.specs.HeldUnit.{UnitOver, is_released, Held, doubt_by, Gives, of_put, of_change, of_unit, WorksBy, UnitCall, CountsAnswer}
+use Rattle.blob_node.specs.HeldUnit.{UnitOver, is_released, Held, doubt_by, Gives, of_put, of_change, of_unit, WorksBy, UnitCall}
 use Rattle.blob_node.specs.declared.held_unit.Doubt.TheVariants as doubts
 use Rattle.blob_node.proofs.Working.{IsCalm, IsOpenPlan, call_by, state_of_kind, row_is, fence_is, Fitting, worked}
 

@@ -1,21 +1,20 @@
 -- A start of a unit's chunk, which settles a record in doubt.
-use Rattle.std.proofs.Common.{◌≡◌, ◌∙◌, sym, ap, refl, subst, ℕ, Bool, true, false, List, [], ◌∷◌, ◌++◌, Option, None, Some, Result, Ok, Err, IfSome, IsSomeAnd, ◌⊎◌, inl, inr}
+use Rattle.std.proofs.Common.{◌≡◌, ◌∙◌, sym, ap, refl, subst, ℕ, Bool, true, false, List, [], ◌∷◌, ◌++◌, Option, None, Some, Ok, Err, IfSome, IsSomeAnd, inl, inr}
 use Rattle.std.specs.Prelude.{option_map, is_some, not, ◌&&◌, ◌||◌}
 use Rattle.std.specs.FinMap as map
 use Rattle.unit_id.specs.Place.{Place}
-use Rattle.unit_id.specs.UnitName.{Name}
 use Rattle.disk_base.specs.Disk.{FileView, LeavesExactly}
-use Rattle.shard_record.specs.Rows.{Row, Rows, rows_after}
+use Rattle.shard_record.specs.Rows.{rows_after}
 use Rattle.shard_record.specs.declared.record.ShardRecord.{ShardRecord}
 use Rattle.chunk_store.specs.Kept.{KeptRows, row_of, kind_of, shut_after}
-use Rattle.chunk_store.specs.Records.{IsChunkOf, IsWithOrWithout, HasKinds, kind_of_row}
-use Rattle.chunk_store.specs.Chunk.{ChunkView, ChunkOver, shown, IsSound, Remembers, HasRecords, StartEnds, StartsWith}
+use Rattle.chunk_store.specs.Records.{IsChunkOf, HasKinds}
+use Rattle.chunk_store.specs.Chunk.{ChunkView, shown, IsSound, Remembers, HasRecords, StartEnds, StartsWith}
 use Rattle.chunk_store.specs.declared.answer.RowKind.{RowKind}
 use Rattle.chunk_store.specs.declared.answer.RowKind.TheVariants as kinds
 use Rattle.chunk_store.specs.declared.fault.ChunkFault.{ChunkFault}
 use Rattle.chunk_store.specs.declared.fault.ChunkFault.TheVariants as faults
 use Rattle.chunk_store.proofs.ChunkLaws.{has_kinds}
-use Rattle.chunk_store.proofs.Opened.{told_at, same_chunk}
+use Rattle.chunk_store.proofs.Opened.{told_at}
 use Rattle.chunk_store.proofs.Finding.{some_and}
 use Rattle.blob_node.specs.Units.{RowState, UnitRecord, Units, is_deleted, with_at, with_record, after_mark, after_shard, after_free, after_fence}
 use Rattle.blob_node.specs.UnitAnswer.{settled_at, settled, with_written}
@@ -24,7 +23,7 @@ use Rattle.blob_node.specs.HeldUnit.{UnitOver, is_released, Held, record_of_doub
 use Rattle.blob_node.specs.declared.held_unit.Doubt.{Doubt}
 use Rattle.blob_node.specs.declared.held_unit.Doubt.TheVariants as doubts_
 use Rattle.blob_node.proofs.Lookups.{there_now, row_here}
-use Rattle.blob_node.proofs.Holdings.{never_both, record_made, record_shut, record_doubt, new_still}
+use Rattle.blob_node.proofs.Holdings.{never_both, record_made, record_doubt, new_still}
 use Rattle.blob_node.proofs.RowsLaws.{more_rows}
 use Rattle.blob_node.proofs.Working.{state_of_kind, same_state}
 
@@ -167,7 +166,7 @@ module _ {E : Type 0} (seen : E → FileView) (old new : UnitOver E) (written : 
               (record {
                 made = held.made;
                 rows_are = held.rows_are;
-                shut = there_now place false units.is_shut ∙ sym open_;
+                shut = λ shut. absurd (never_both new.chunk.is_shut open_ shut);
                 released = or_flag new.was_released new.chunk.is_shut new.chunk.kept.is_released (units.is_released place) (units.is_released place) was_flag open_ knows.released_now (λ e. e);
                 doubted = there_now place None units.doubt;
                 doubt_is = refl;
@@ -213,7 +212,7 @@ module _ {E : Type 0} (seen : E → FileView) (old new : UnitOver E) (written : 
                 (record {
                   made = record_made place place (without_bytes item) (settled_at place units) ∙ held.made;
                   rows_are = rows_then;
-                  shut = record_shut place place (without_bytes item) (settled_at place units) ∙ there_now place false units.is_shut ∙ sym open_;
+                  shut = λ shut. absurd (never_both new.chunk.is_shut open_ shut);
                   released = or_flag new.was_released new.chunk.is_shut new.chunk.kept.is_released (units.is_released place) (after_.is_released place) was_flag open_ knows.released_now (λ e. absurd (never_both (units.is_released place) fresh.1 e));
                   doubted = record_doubt place place (without_bytes item) (settled_at place units) ∙ there_now place None units.doubt;
                   doubt_is = refl;
@@ -308,7 +307,7 @@ module _ {E : Type 0} (seen : E → FileView) (old new : UnitOver E) (written : 
           (record {
             made = held.made;
             rows_are = held.rows_are;
-            shut = there_now place new.chunk.is_shut units.is_shut;
+            shut = λ shut. there_now place new.chunk.is_shut units.is_shut ∙ shut;
             released = (λ i. same_was i || (not new.chunk.is_shut && (ends.1 i).is_released)) ∙ still_flag old.was_released old.chunk.is_shut old.chunk.kept.is_released new.chunk.is_shut open_then ∙ held.released;
             doubted = held.doubted;
             doubt_is = held.doubt_is;

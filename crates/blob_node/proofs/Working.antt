@@ -1,6 +1,6 @@
 -- From what a chunk does by its plan to what the unit answers and stands for.
-use Rattle.std.proofs.Common.{◌≡◌, ◌≢◌, ◌∙◌, sym, ap, refl, subst, ℕ, Bool, true, false, List, [], ◌∷◌, ◌++◌, Option, None, Some, Result, Ok, Err, IsSomeAnd}
-use Rattle.std.specs.Prelude.{option_map, ◌||◌, not, ◌&&◌, ◌==◌, if◌then◌else◌, IsErr, IfSome}
+use Rattle.std.proofs.Common.{◌≡◌, ◌∙◌, sym, ap, refl, subst, ℕ, Bool, true, false, [], ◌∷◌, ◌++◌, Option, None, Some, Result, Ok, Err}
+use Rattle.std.specs.Prelude.{option_map, ◌||◌, not, ◌&&◌, IsErr}
 use Rattle.unit_id.specs.Place.{Place}
 use Rattle.unit_id.specs.Request as asked
 use Rattle.unit_id.specs.Messages.{request_of, answer_of}
@@ -8,16 +8,15 @@ use Rattle.unit_id.specs.declared.request.Request as sent
 use Rattle.unit_id.specs.declared.answer.Answer as answered
 use Rattle.unit_id.specs.declared.answer.Answer.TheVariants as answers
 use Rattle.unit_id.proofs.Bools.{or_none}
-use Rattle.disk_base.specs.Faults.{Rose}
-use Rattle.disk_base.specs.Disk.{FileView, Lasts}
+use Rattle.disk_base.specs.Disk.{FileView}
 use Rattle.disk_base.specs.Moments.{lasts_none}
 use Rattle.disk_base.specs.declared.fault.NoMemory.{NoMemory}
 use Rattle.shard_record.specs.Rows.{Row, Rows, rows_after, row_at}
 use Rattle.shard_record.specs.Rows as rows
 use Rattle.shard_record.specs.declared.record.ShardRecord.{ShardRecord}
 use Rattle.chunk_store.specs.Kept.{KeptRows, row_of, kind_of, kept_after}
-use Rattle.chunk_store.specs.Records.{HasKinds, kind_of_row, IsWithOrWithout}
-use Rattle.chunk_store.specs.Chunk.{ChunkOver, shown, IsSound, HasRecords, Plan, refuse, answer, add, Does, Adds, AddEnds, AddsTo, ChunkCall, CountsFault, IsUnwritten}
+use Rattle.chunk_store.specs.Records.{HasKinds, kind_of_row}
+use Rattle.chunk_store.specs.Chunk.{ChunkOver, shown, IsSound, HasRecords, Plan, refuse, answer, add, Does, Adds, AddEnds, ChunkCall, CountsFault, IsUnwritten}
 use Rattle.chunk_store.specs.declared.answer.RowKind.{RowKind}
 use Rattle.chunk_store.specs.declared.answer.RowKind.TheVariants as kinds
 use Rattle.chunk_store.specs.declared.fault.ChunkFault.{ChunkFault}

@@ -1,9 +1,8 @@
 -- What the chunk of a unit says of it: its records in order, and the rows that they leave in the eyes of the protocol.
-use Rattle.std.specs.Prelude.{ℕ, ◌≡◌, Bool, true, false, List, [], ◌∷◌, ◌++◌, Option, None, Some, option_map, Result, Ok, Err, IfSome, IsSomeAnd}
+use Rattle.std.specs.Prelude.{ℕ, ◌≡◌, Bool, true, false, List, [], ◌∷◌, ◌++◌, Option, None, Some, option_map, IfSome, IsSomeAnd}
 use Rattle.std.specs.FinMap as map
 use Rattle.unit_id.specs.UnitName.{Name}
 use Rattle.unit_id.specs.Place.{Place}
-use Rattle.unit_id.specs.Messages.{request_of, answer_of}
 use Rattle.unit_id.specs.declared.request.Request.TheVariants as requests
 use Rattle.unit_id.specs.declared.request.Request as sent
 use Rattle.unit_id.specs.declared.answer.Answer.TheVariants as answers
@@ -15,7 +14,7 @@ use Rattle.shard_record.specs.declared.record.ShardRecord.TheVariants as records
 use Rattle.chunk_store.specs.Records.{IsChunkOf, IsWithOrWithout}
 use Rattle.chunk_store.specs.Chunk.{ChunkView, HasRecords}
 use Rattle.blob_node.specs.Units.{RowState, UnitRecord, Units, is_deleted}
-use Rattle.blob_node.specs.UnitAnswer.{Effect, Works, view_at, units_after}
+use Rattle.blob_node.specs.UnitAnswer.{Effect}
 
 -- a row without its bytes
 abbrev pub state_of : Option Row → Option RowState
@@ -79,11 +78,11 @@ FileHas chunk written =
     × (chunk.is_shut ≡ true → IsSomeAnd chunk.file.content (Says chunk.unit written.items written.doubt))
 
 -- The chunk of a unit stands for it: what was written is in its file, and leaves what the protocol knows of the unit. Memory knows whether
--- the unit is released, and the record in doubt.
+-- the unit is released, and the record in doubt. The protocol may count a chunk that is open as shut, and never the other way round.
 pub record Holds (chunk : ChunkView) (doubt : Option UnitRecord) (is_released : Bool) (written : Written) (units : Units) (place : Place) : Type 0 where
   pub made : units.is_made place ≡ true
   pub rows_are : HasRows (rows_after written.items) (units.row place) (units.fence place) (units.is_released place)
-  pub shut : units.is_shut place ≡ chunk.is_shut
+  pub shut : chunk.is_shut ≡ true → units.is_shut place ≡ true
   pub released : is_released ≡ units.is_released place
   pub doubted : units.doubt place ≡ doubt
   pub doubt_is : option_map without_bytes written.doubt ≡ doubt

@@ -4,3 +4,6 @@ pub mod Laws
 pub mod Link
 pub mod Holding
 pub mod HeldUnit
+pub mod UnitTable
+pub mod NewChunk
+pub mod Station

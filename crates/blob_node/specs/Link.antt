@@ -1,5 +1,5 @@
 -- The fates that are planned for the messages to each disk.
-use Rattle.std.specs.Prelude.{ℕ, ◌≤◌, ◌-◌, List, [], ◌∷◌, ◌++◌, drop, replicate, length, get_or, slice_set}
+use Rattle.std.specs.Prelude.{ℕ, ◌≤◌, ◌-◌, List, [], ◌∷◌, length, get_or, slice_set}
 use Rattle.blob_node.specs.declared.fate.Fate.{Fate}
 use Rattle.blob_node.specs.declared.fate.Fate.TheVariants.{Pass}
 

@@ -1,6 +1,6 @@
 //! One unit on a station: its chunk, and how it answers.
 
-ghost use Rattle.std.specs.Prelude.{◌≡◌, ℕ, false, None, MatchResult, IfErr};
+ghost use Rattle.std.specs.Prelude.{◌≡◌, ℕ, false, None, is_some, MatchResult, IfErr};
 ghost use Rattle.chunk_store.specs.Kept.{shut_after};
 ghost use Rattle.shard_record.specs.Spelling.{HasSizes};
 ghost use Rattle.shard_record.specs.declared.record.ShardRecord.TheVariants.{Shard};
@@ -74,6 +74,13 @@ impl<E: Extent> HeldUnit<E> {
         ensures { result ≡ is_released self.now }
     {
         self.was_released || (!self.chunk.is_shut() && self.chunk.is_released())
+    }
+
+    /// Whether a record is in doubt.
+    pub fn is_in_doubt(&self) -> bool
+        ensures { result ≡ is_some self.now.doubt }
+    {
+        self.doubt.is_some()
     }
 
     /// Whether the chunk is shut.
@@ -371,7 +378,7 @@ fn listing_answer(lock: u64, outcome: Result<(Bids, Bids), ChunkFault>) -> Resul
 }
 
 // What a refusal of the chunk is answered with.
-fn refusal(fault: ChunkFault) -> Result<Answer, NoMemory>
+pub(crate) fn refusal(fault: ChunkFault) -> Result<Answer, NoMemory>
     ensures { Refused fault result }
 {
     match fault {

@@ -6,20 +6,33 @@
 //!
 //! `HeldUnit` is a unit that was made here, over its chunk, and answers by that relation. Over a file that tells, its
 //! chunk's records leave the rows that the protocol knows (`specs/Holding`), before and after each call; a record
-//! in doubt is settled by the next start, which says whether it was found. `Link` plans by disk what happens to
-//! messages. The station that makes units and finds them by name isn't written yet.
+//! in doubt is settled by the next start, which says whether it was found.
 //!
-//! Public: `HeldUnit` with `over`, `start`, `serve`, `unit`, `is_released`, `is_shut` and `into_chunk`; `Link` with `make`,
+//! `Station` is all units of one volume on one disk, over a shelf: it makes units, finds them by a hash of their names
+//! and answers each request by the protocol's relation. `specs/Station` says what a station stands for over a shelf that
+//! tells, and what a request leaves. `Link` plans by disk what happens to messages.
+//!
+//! Public: `HeldUnit` with `over`, `start`, `serve`, `unit`, `is_released`, `is_in_doubt`, `is_shut` and `into_chunk`;
+//! `Station` with `make`, `handle`, `unit`, `is_broken`, `disk`, `vid`, `break_down` and `into_shelf`; `Link` with `make`,
 //! `plan`, `peek` and `next`; `Fate`; the laws of `laws`.
 #![tactic(auto)]
 
 mod fate;
+mod hand_back;
 mod held_unit;
 pub mod laws;
 mod link;
+mod new_chunk;
+mod settled;
+mod station;
+#[cfg(test)]
+mod station_tests;
 #[cfg(test)]
 mod tests;
+mod unit_table;
 
 pub use fate::Fate;
 pub use held_unit::{Doubt, HeldUnit};
 pub use link::Link;
+pub use settled::Settled;
+pub use station::Station;

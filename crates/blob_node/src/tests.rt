@@ -17,15 +17,19 @@ const HAVE: u32 = 1;
 
 /// What is heard of an answer.
 #[derive(Clone, Copy, Debug, PartialEq, Eq)]
-enum Heard {
+pub(crate) enum Heard {
     Done,
     Already,
     /// The tests' shard with its size.
     Live,
     Marked,
     Gone,
+    Absent,
+    NoUnit,
+    Broken,
     /// Blob 7 alone, as marked or gone, under lock 4.
     Listing,
+    /// By a greatest epoch of 1.
     Stale,
     /// By lock 4.
     Fenced,
@@ -138,7 +142,7 @@ fn release(held: &mut HeldUnit<MemFile>) -> Result<(Option<bool>, Heard), Fail> 
     Ok((found, word(answer)?))
 }
 
-fn word(answer: Result<Answer, NoMemory>) -> Result<Heard, Fail> {
+pub(crate) fn word(answer: Result<Answer, NoMemory>) -> Result<Heard, Fail> {
     Ok(match answer? {
         Answer::Done => Heard::Done,
         Answer::Already => Heard::Already,
@@ -151,6 +155,9 @@ fn word(answer: Result<Answer, NoMemory>) -> Result<Heard, Fail> {
         }
         Answer::Marked => Heard::Marked,
         Answer::Gone => Heard::Gone,
+        Answer::Absent => Heard::Absent,
+        Answer::NoUnit => Heard::NoUnit,
+        Answer::Broken => Heard::Broken,
         Answer::Listing { lock, live, marked } => {
             if lock == 4 && live.len() == 0 && marked.as_slice() == [7].as_slice() {
                 Heard::Listing
@@ -158,7 +165,13 @@ fn word(answer: Result<Answer, NoMemory>) -> Result<Heard, Fail> {
                 Heard::Other
             }
         }
-        Answer::Stale { .. } => Heard::Stale,
+        Answer::Stale { have } => {
+            if have == HAVE {
+                Heard::Stale
+            } else {
+                Heard::Other
+            }
+        }
         Answer::Fenced { lock } => {
             if lock == 4 {
                 Heard::Fenced

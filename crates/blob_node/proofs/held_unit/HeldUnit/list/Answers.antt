@@ -1,5 +1,5 @@
 -- What the chunk lists is what the unit answers.
-use Rattle.std.proofs.Common.{subst, ◌∙◌, sym, ap, false, Bool}
+use Rattle.std.proofs.Common.{subst, Bool}
 use Rattle.chunk_store.specs.Chunk.{ListAnswers}
 use Rattle.chunk_store.specs.Kept.{is_live, is_deleted, Lists}
 use Rattle.blob_node.specs.HeldUnit.{UnitOver}

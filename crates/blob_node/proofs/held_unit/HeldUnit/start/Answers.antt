@@ -1,12 +1,10 @@
 -- A start settles what was in doubt.
-use Rattle.std.proofs.Common.{◌≡◌, ◌∙◌, ap, subst, sym, refl, List, Result, Ok, Err, None, IsSomeAnd}
+use Rattle.std.proofs.Common.{◌∙◌, ap, subst, refl, List, Err, None, IsSomeAnd}
 use Rattle.std.specs.Prelude.{option_map}
 use Rattle.shard_record.specs.declared.record.ShardRecord.{ShardRecord}
 use Rattle.chunk_store.specs.Records.{IsChunkOf}
 use Rattle.chunk_store.specs.Chunk.{shown, StartsWith, StartEnds}
-use Rattle.chunk_store.specs.declared.fault.ChunkFault.{ChunkFault}
 use Rattle.blob_node.specs.HeldUnit.{UnitOver, is_released, is_found, record_of_doubt, written_settled}
-use Rattle.blob_node.specs.declared.held_unit.Doubt.{Doubt}
 use Rattle.blob_node.proofs.Settling.{says_it, starts_ok, starts_err}
 use Rattle.blob_node.proofs.held_unit.HeldUnit.start.Goals as goal
 

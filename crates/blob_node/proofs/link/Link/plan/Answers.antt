@@ -1,5 +1,5 @@
 -- The plan goes to the disk's queue, and for want of memory it stays as it was.
-use Rattle.std.proofs.Common.{◌≡◌, ◌++◌, ◌-◌, subst, sym, replicate, OnOk, OnErr, map}
+use Rattle.std.proofs.Common.{◌≡◌, ◌++◌, ◌-◌, subst, sym, replicate, map}
 use Rattle.std.proofs.lemmas.Result.{on_ok_weaker, on_err_weaker}
 use Rattle.std.proofs.Math.ListN.{set}
 use Rattle.blob_node.specs.Link.{fates_of, with_fates, IsDiskOf, Planned}
