@@ -1,9 +1,9 @@
 -- Homes one after another, and by index.
-use Rattle.std.proofs.Common.{◌≡◌, ◌∙◌, sym, ap, subst, refl, ℕ, zero, suc, ◌+◌, ◌-◌, ◌<◌, ◌≤◌, Bool, true, false, List, [], ◌∷◌, length, take, drop, get_or, arith}
+use Rattle.std.proofs.Common.{◌≡◌, ◌∙◌, sym, ap, subst, refl, ℕ, zero, suc, ◌-◌, ◌<◌, ◌≤◌, Bool, true, false, List, [], ◌∷◌, length, take, drop, get_or, arith}
 use Rattle.std.proofs.lemmas.List.{take_all}
 use Rattle.code_mode.specs.VolumeShape.{VolumeShape, last_epoch}
 use Rattle.unit_id.specs.Place.{Location}
-use Rattle.volume_entry.specs.Manager.{IsDisk, IsFree, AreFirstHomes, home_at}
+use Rattle.volume_entry.specs.Manager.{IsDisk, AreFirstHomes, home_at}
 use Rattle.volume_entry.specs.FirstHomes.{IsFresh, AreFresh}
 use Rattle.volume_entry.specs.TableParts.{Tells}
 

@@ -1,12 +1,12 @@
 -- A byte string is the spelling of one record at most.
-use Rattle.std.proofs.Common.{◌≡◌, ◌∙◌, sym, ap, refl, ℕ, ◌+◌, ◌<◌, ◌^◌, List, [], ◌∷◌, ◌++◌, length, take, drop, get_or, arith}
+use Rattle.std.proofs.Common.{◌≡◌, ◌∙◌, sym, ap, refl, ℕ, ◌<◌, ◌^◌, List, [], ◌∷◌, ◌++◌, length, take, drop, get_or, arith}
 use Rattle.std.specs.List.{flat_map}
 use Rattle.std.specs.Int.{w32, w64, to_be_bytes, from_be_bytes}
 use Rattle.std.proofs.lemmas.Nat.{from_be_bytes-to_be_bytes_4, from_be_bytes-to_be_bytes_8}
 use Rattle.code_mode.specs.declared.mode.Mode.{Mode}
 use Rattle.unit_id.specs.Place.{Location}
 use Rattle.volume_entry.specs.Manager.{Grant, ManagerRecord}
-use Rattle.volume_entry.specs.Spelling.{home_bytes, grant_bytes, kind_of, fields_of, summed_part, mode_number, HomeFits, GrantFits, DoHomesFit, DoGrantsFit, Fits, Spells}
+use Rattle.volume_entry.specs.Spelling.{home_bytes, grant_bytes, kind_of, fields_of, summed_part, GrantFits, DoHomesFit, DoGrantsFit, Fits, Spells}
 
 same_home : (a b : Location) → a.epoch ≡ b.epoch → a.disk ≡ b.disk → a ≡ b
 same_home a b e d =

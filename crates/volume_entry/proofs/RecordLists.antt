@@ -1,13 +1,10 @@
 -- Lists of homes and grants, one more at a time, and the fields of records by their kind.
-use Rattle.std.proofs.Common.{◌≡◌, ◌∙◌, sym, ap, subst, refl, ℕ, suc, ◌+◌, ◌*◌, ◌<◌, ◌≤◌, ◌^◌, List, [], ◌∷◌, ◌++◌, length, take, drop, get_or, arith, append_assoc, length-append}
+use Rattle.std.proofs.Common.{◌≡◌, ◌∙◌, sym, ap, subst, refl, ℕ, ◌+◌, ◌<◌, List, [], ◌∷◌, ◌++◌, length, take, get_or, append_assoc}
 use Rattle.std.specs.List.{flat_map}
-use Rattle.std.specs.Int.{w32, w64, to_be_bytes}
 use Rattle.std.proofs.lemmas.List.{take_more}
-use Rattle.std.proofs.lemmas.List.Concat.{flat_map-append}
-use Rattle.code_mode.specs.declared.mode.Mode.{Mode}
 use Rattle.unit_id.specs.Place.{Location}
-use Rattle.volume_entry.specs.Manager.{Grant, ManagerRecord}
-use Rattle.volume_entry.specs.Spelling.{home_bytes, grant_bytes, kind_of, fields_of, mode_number, HomeFits, GrantFits, DoHomesFit, DoGrantsFit}
+use Rattle.volume_entry.specs.Manager.{Grant}
+use Rattle.volume_entry.specs.Spelling.{HomeFits, GrantFits, DoHomesFit, DoGrantsFit}
 
 pub homes_fit-push : (xs : List Location) (x : Location) → DoHomesFit xs → HomeFits x → DoHomesFit (xs ++ x ∷ [])
 homes_fit-push [] x h f = (f, tt)

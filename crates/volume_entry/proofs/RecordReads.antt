@@ -1,11 +1,11 @@
 -- What the reading of a record's parts shows.
-use Rattle.std.proofs.Common.{◌≡◌, ◌∙◌, sym, ap, subst, refl, ℕ, ◌+◌, ◌*◌, ◌<◌, ◌≤◌, ◌^◌, List, [], ◌∷◌, ◌++◌, length, take, drop, get_or, arith, drop-cons, length-drop, Option, Some, None, IfSome}
+use Rattle.std.proofs.Common.{◌≡◌, ◌∙◌, sym, ap, subst, refl, ℕ, ◌*◌, ◌<◌, ◌≤◌, ◌^◌, List, [], ◌∷◌, ◌++◌, length, drop, get_or, arith, drop-cons, length-drop}
 use Rattle.std.specs.List.{flat_map}
 use Rattle.std.specs.Int.{w32, w64, to_be_bytes}
 use Rattle.code_mode.specs.declared.mode.Mode.{Mode}
 use Rattle.unit_id.specs.Place.{Location}
 use Rattle.volume_entry.specs.Manager.{Grant, ManagerRecord}
-use Rattle.volume_entry.specs.Spelling.{home_bytes, grant_bytes, kind_of, fields_of, mode_number, GrantFits, DoHomesFit, DoGrantsFit}
+use Rattle.volume_entry.specs.Spelling.{home_bytes, grant_bytes, fields_of, mode_number, GrantFits, DoHomesFit, DoGrantsFit}
 use Rattle.volume_entry.specs.RecordBytes.{HasFields}
 use Rattle.volume_entry.proofs.RecordKinds.{MadeSays, LockSays, made_has, lock_has}
 

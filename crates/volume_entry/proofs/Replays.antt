@@ -1,5 +1,5 @@
 -- What a body says is one record's.
-use Rattle.std.proofs.Common.{◌≡◌, ◌∙◌, sym, subst, ℕ, Bool, true, false, List}
+use Rattle.std.proofs.Common.{◌≡◌, ◌∙◌, subst, ℕ, Bool, true, false, List}
 use Rattle.code_mode.specs.declared.mode.Mode.{Mode}
 use Rattle.unit_id.specs.Place.{Location}
 use Rattle.volume_entry.specs.Manager.{Manager, ManagerRecord, AreFirstHomes, IsLegal}

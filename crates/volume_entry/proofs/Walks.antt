@@ -7,7 +7,7 @@ use Rattle.unit_id.specs.Place.{Location}
 use Rattle.std.specs.Prelude.{is_some, not, ◌-◌, ◌||◌, ◌^◌}
 use Rattle.std.proofs.lemmas.Bool.{eqb-true, eqb-false}
 use Rattle.code_mode.specs.VolumeShape.{VolumeShape}
-use Rattle.volume_entry.specs.Manager.{Grant, Transfer, Manager, ManagerRecord, IsLegal, home_at, IsFree, AreInOrder}
+use Rattle.volume_entry.specs.Manager.{Grant, Transfer, Manager, ManagerRecord, IsLegal, IsFree, AreInOrder}
 use Rattle.volume_entry.specs.TableParts.{Tells, IsBefore, AreApart, CanTake}
 use Rattle.volume_entry.proofs.Grants.{holder_free}
 use Rattle.volume_entry.specs.ManagerStep.{holder}

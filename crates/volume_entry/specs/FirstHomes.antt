@@ -1,5 +1,5 @@
 -- Homes with which a volume may be made, one after another.
-use Rattle.std.specs.Prelude.{ℕ, ◌≤◌, List, [], ◌∷◌}
+use Rattle.std.specs.Prelude.{◌≤◌, List, [], ◌∷◌}
 use Rattle.code_mode.specs.VolumeShape.{VolumeShape, last_epoch}
 use Rattle.unit_id.specs.Place.{Location}
 use Rattle.volume_entry.specs.Manager.{IsDisk, IsFree}

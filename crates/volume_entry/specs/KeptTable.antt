@@ -1,7 +1,6 @@
 -- What memory keeps of a volume: all that the records of its log say.
-use Rattle.std.specs.Prelude.{ℕ, ◌≡◌, ◌+◌, ◌^◌, ◌<◌, false, List, [], Option, Some, None}
-use Rattle.unit_id.specs.Lists.{is_in}
-use Rattle.volume_entry.specs.Manager.{Transfer, Manager, ManagerRecord, nothing_heard}
+use Rattle.std.specs.Prelude.{ℕ, ◌^◌, ◌<◌, List}
+use Rattle.volume_entry.specs.Manager.{Transfer}
 use Rattle.volume_entry.specs.Spelling.{HomeFits}
 
 -- blobs, the latest first, and for how many more there is room

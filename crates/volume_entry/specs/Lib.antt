@@ -11,3 +11,11 @@ pub mod Reply
 pub mod ManagerStep
 pub mod Laws
 pub mod ShownView
+pub mod HeardMemory
+pub mod Book
+pub mod BookStart
+pub mod HeardCalls
+pub mod MarkKeys
+pub mod Entry
+pub mod HeardCounts
+pub mod Shares

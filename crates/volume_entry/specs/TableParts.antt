@@ -1,9 +1,9 @@
 -- The table of a volume as the protocol sees it, and what is tested of records that it is to take.
-use Rattle.std.specs.Prelude.{ℕ, ◌≡◌, ◌+◌, ◌^◌, ◌<◌, Bool, true, false, List, [], ◌∷◌, Option, Some, None}
+use Rattle.std.specs.Prelude.{ℕ, ◌≡◌, ◌+◌, ◌^◌, ◌<◌, ◌≤◌, Bool, true, false, List, [], ◌∷◌, None}
 use Rattle.code_mode.specs.VolumeShape.{VolumeShape, volume_shape}
 use Rattle.unit_id.specs.Lists.{IsIn, is_in}
 use Rattle.unit_id.specs.Place.{Location}
-use Rattle.volume_entry.specs.Manager.{Grant, Transfer, IsNextHome, IsLegal, Manager, ManagerRecord, nothing_heard, written}
+use Rattle.volume_entry.specs.Manager.{Grant, Transfer, IsNextHome, IsLegal, Manager, ManagerRecord, nothing_heard, transfers_to, written}
 use Rattle.volume_entry.specs.declared.shape.Shape.{Shape}
 use Rattle.volume_entry.specs.declared.table.Table.{Table}
 
@@ -30,6 +30,13 @@ CanTake m (ManagerRecord.Asked bid) = is_in bid m.asked ≡ false
 CanTake m (ManagerRecord.Committed bid) = is_in bid m.committed ≡ false
 CanTake m ManagerRecord.Swapped = m.version + 1 < 2 ^ 64
 CanTake m _ = Unit {0}
+
+-- what a table was given before it is to take a record: room for a blob, or the transfers of a lock
+abbrev pub IsPrepared : ManagerRecord → Table → List Transfer → Type 0
+IsPrepared (ManagerRecord.Asked bid) table transfers = 1 ≤ table.asked.spare
+IsPrepared (ManagerRecord.Committed bid) table transfers = 1 ≤ table.committed.spare
+IsPrepared (ManagerRecord.Locked task number grants) table transfers = transfers ≡ transfers_to grants table.homes.items
+IsPrepared _ table transfers = Unit {0}
 
 -- the numbers of a volume as the code has them
 abbrev pub shape_of : Shape → VolumeShape

@@ -5,23 +5,46 @@
 //! of each step in order, what it writes where none holds, and what hearing an answer does. `specs/Spelling` gives each
 //! record's one spelling in bytes.
 //!
-//! Today the crate has these definitions, the laws below, the records of the log, and the table that they leave. `write`
-//! gives the spelling of a record and `read` the record that bytes spell. A `Table` is made by the first body of a log
-//! (`Table::made`) and takes the others one by one (`take_body`), each exactly where it spells a record that is legal
-//! behind those before it. The entry that keeps a volume by them, with what was heard, isn't written yet.
+//! Today the crate has these definitions, the laws below, the records of the log, the table that they leave, the memory of
+//! what was heard, and of the entry its book, its start and two of its steps. `write` gives the spelling of a record and `read`
+//! the record that bytes spell. A `Table` is made by the first body of a log and takes the others one by one, each exactly where
+//! it spells a record that is legal behind those before it. A `Book` is a log with its table: it writes records and starts anew,
+//! and `specs/Book` says for which part of a manager it stands. An `Entry` is a book with what was heard; `specs/Entry` says for
+//! which manager it stands. It gives leases, notes deletes that are asked for, and starts anew. How an entry is made, and its
+//! other steps, aren't written yet.
 //!
-//! Public: `read`, `write`, `LogRecord`, `UnitHome`, `NewHome`, `Shape`, `are_first_homes`, and `Table` with `fresh`, `made`,
-//! `is_legal`, `take`, `take_legal`, `take_body` and a call for each kind of record.
+//! Public: `read`, `write`, `LogRecord`, `UnitHome`, `NewHome`, `Shape`, `are_first_homes`, `Table` with `fresh`, `made`,
+//! `is_legal`, `take`, `take_legal`, `take_body` and a call for each kind of record, and `Entry` with `start`, `lease`, `ask`,
+//! `reserve`, `break_disk`, `end` and `into_file`; `ManagerReply`, `EntryFault`, `View` and `LockView`.
 #![tactic(auto)]
 
+mod appending;
 mod bid_set;
+mod book;
+mod counting;
+mod destinations;
+mod entry;
+mod event;
+mod fault;
 mod first_homes;
+mod heard;
+mod heard_bids;
+mod heard_marks;
+mod heard_moves;
+#[cfg(test)]
+mod heard_tests;
+mod hearing;
 mod held;
 pub mod laws;
 mod legal;
+mod listing;
+mod moving;
 mod reading;
 mod record;
+mod refusing;
 mod replaying;
+mod rereading;
+mod settling;
 mod shape;
 mod table;
 #[cfg(test)]
@@ -29,6 +52,9 @@ mod tests;
 mod view;
 mod writing;
 
+pub use entry::Entry;
+pub use event::{ManagerEvent, ManagerReply};
+pub use fault::EntryFault;
 pub use first_homes::are_first_homes;
 pub use reading::read;
 pub use record::{LogRecord, NewHome, UnitHome};

@@ -1,9 +1,9 @@
 //! The table of a volume: what the records of its log say.
 
-ghost use Rattle.std.specs.Prelude.{◌≡◌, ◌≤◌, ◌<◌, ◌+◌, ◌^◌, length, Some, None, IfOk, OnOk, OnErr, false, true};
-ghost use Rattle.volume_entry.specs.Manager.{ManagerRecord, fresh_manager, written, transfers_to};
+ghost use Rattle.std.specs.Prelude.{◌≡◌, ◌≤◌, ◌<◌, ◌+◌, ◌^◌, length, Some, None, IfOk, OnOk, OnErr, IsOk, false, true};
+ghost use Rattle.volume_entry.specs.Manager.{ManagerRecord, fresh_manager, written, transfers_of, transfers_to};
 ghost use Rattle.volume_entry.specs.RecordBytes.{record_of};
-ghost use Rattle.volume_entry.specs.TableParts.{part_of, CanTake};
+ghost use Rattle.volume_entry.specs.TableParts.{part_of, CanTake, IsPrepared};
 
 use crate::bid_set::BidSet;
 use crate::held::{HeldLock, HeldTransfer, raise, redirect, swap_lock, transfers_to};
@@ -41,6 +41,16 @@ impl Table {
             asked: BidSet::none(alloc),
             committed: BidSet::none(alloc),
         })
+    }
+
+    /// What the lock moves.
+    pub fn held(&self) -> &[HeldTransfer]
+        ensures { result.now ≡ transfers_of self.now.lock }
+    {
+        match &self.lock {
+            Some(lock) => &lock.transfers,
+            None => &[],
+        }
     }
 
     /// Lengthens the lease.
@@ -102,22 +112,66 @@ impl Table {
         self.lock = None;
     }
 
-    /// Notes a blob that is to be deleted.
+    /// Notes a blob that is to be deleted. Where there is room it takes no memory.
     pub fn ask(&mut self, bid: u64) -> Result<(), AllocError>
         requires { CanTake (part_of self.old) (ManagerRecord.Asked bid) }
         ensures noted { OnOk result (part_of self.new ≡ written (ManagerRecord.Asked bid) (part_of self.old)) }
         ensures same { OnErr result (part_of self.new ≡ part_of self.old) }
+        ensures succeeds { 1 ≤ self.old.asked.spare → IsOk result }
     {
         self.asked.add(bid)
     }
 
-    /// Notes a blob whose delete is settled.
+    /// Notes a blob whose delete is settled. Where there is room it takes no memory.
     pub fn commit(&mut self, bid: u64) -> Result<(), AllocError>
         requires { CanTake (part_of self.old) (ManagerRecord.Committed bid) }
         ensures noted { OnOk result (part_of self.new ≡ written (ManagerRecord.Committed bid) (part_of self.old)) }
         ensures same { OnErr result (part_of self.new ≡ part_of self.old) }
+        ensures succeeds { 1 ≤ self.old.committed.spare → IsOk result }
     {
         self.committed.add(bid)
+    }
+
+    /// Makes room for a record, and answers the transfers of the lock that it grants, if any.
+    pub fn prepare(
+        &mut self,
+        alloc: Global,
+        item: &LogRecord,
+    ) -> Result<Vec<HeldTransfer>, AllocError>
+        ensures same { part_of self.new ≡ part_of self.old }
+        ensures room { IfOk result (λ transfers. IsPrepared (record_of item.now) self.new transfers.items) }
+    {
+        match item {
+            LogRecord::Locked { grants, .. } => return self.transfers(alloc, grants),
+            LogRecord::Asked { .. } => self.asked.reserve()?,
+            LogRecord::Committed { .. } => self.committed.reserve()?,
+            _ => {}
+        }
+        Ok(Vec::new(alloc))
+    }
+
+    /// Takes a record that is legal behind those that the table has, with what was prepared for it. It takes no memory.
+    pub fn take_prepared(
+        &mut self,
+        item: &LogRecord,
+        transfers: Vec<HeldTransfer>,
+    ) -> Result<(), AllocError>
+        requires legal { CanTake (part_of self.old) (record_of item.now) }
+        requires room { IsPrepared (record_of item.now) self.old transfers.items }
+        ensures taken { OnOk result (part_of self.new ≡ written (record_of item.now) (part_of self.old)) }
+        ensures succeeds { IsOk result }
+    {
+        match item {
+            LogRecord::Made { .. } => {}
+            LogRecord::Leased { end } => self.lease(*end),
+            LogRecord::Locked { task, lock, grants } => self.hold(*task, *lock, grants, transfers),
+            LogRecord::Retargeted { grant } => self.retarget(*grant),
+            LogRecord::Swapped => self.swap(),
+            LogRecord::Unlocked => self.unlock(),
+            LogRecord::Asked { bid } => return self.ask(*bid),
+            LogRecord::Committed { bid } => return self.commit(*bid),
+        }
+        Ok(())
     }
 
     /// Takes a record that is legal behind those that the table has.
@@ -126,19 +180,7 @@ impl Table {
         ensures taken { OnOk result (part_of self.new ≡ written (record_of item.now) (part_of self.old)) }
         ensures same { OnErr result (part_of self.new ≡ part_of self.old) }
     {
-        match item {
-            LogRecord::Made { .. } => {}
-            LogRecord::Leased { end } => self.lease(*end),
-            LogRecord::Locked { task, lock, grants } => {
-                let transfers = self.transfers(alloc, grants)?;
-                self.hold(*task, *lock, grants, transfers);
-            }
-            LogRecord::Retargeted { grant } => self.retarget(*grant),
-            LogRecord::Swapped => self.swap(),
-            LogRecord::Unlocked => self.unlock(),
-            LogRecord::Asked { bid } => return self.ask(*bid),
-            LogRecord::Committed { bid } => return self.commit(*bid),
-        }
-        Ok(())
+        let transfers = self.prepare(alloc, item)?;
+        self.take_prepared(item, transfers)
     }
 }

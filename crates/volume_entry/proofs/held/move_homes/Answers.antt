@@ -1,4 +1,3 @@
-use Rattle.std.proofs.Common.{refl, ◌≡◌, ℕ}
 use Rattle.volume_entry.specs.Manager.{moved_one}
 use Rattle.volume_entry.proofs.TableLists.{done_step, done_all, done-moved}
 use Rattle.volume_entry.proofs.held.move_homes.Goals as goal

@@ -1,5 +1,4 @@
-use Rattle.std.proofs.Common.{◌≡◌, ◌∙◌, sym, ap, ℕ}
-use Rattle.unit_id.specs.Place.{Location}
+use Rattle.std.proofs.Common.{◌≡◌, ◌∙◌, sym, ap}
 use Rattle.volume_entry.specs.Manager.{Transfer}
 use Rattle.volume_entry.proofs.TableLists.{moved_one-hit, moved_one-skip}
 use Rattle.volume_entry.proofs.held.moved_one.Goals as goal

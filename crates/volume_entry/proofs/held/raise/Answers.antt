@@ -1,4 +1,4 @@
-use Rattle.std.proofs.Common.{refl, ◌≡◌, ℕ}
+use Rattle.std.proofs.Common.{refl}
 use Rattle.volume_entry.specs.Manager.{raised_one}
 use Rattle.volume_entry.proofs.TableLists.{done_step, done_all, done-raised}
 use Rattle.volume_entry.proofs.held.raise.Goals as goal

@@ -1,4 +1,4 @@
-use Rattle.std.proofs.Common.{◌≡◌, ◌∙◌, sym, ap, ℕ}
+use Rattle.std.proofs.Common.{◌≡◌, ◌∙◌, sym, ap}
 use Rattle.volume_entry.specs.Manager.{Grant}
 use Rattle.volume_entry.proofs.TableLists.{raised_one-hit, raised_one-skip}
 use Rattle.volume_entry.proofs.held.raised_one.Goals as goal

@@ -1,4 +1,4 @@
-use Rattle.std.proofs.Common.{refl, ◌≡◌, ℕ, List, [], ◌∷◌, ap, get_or}
+use Rattle.std.proofs.Common.{◌≡◌, List, [], ◌∷◌, ap, get_or}
 use Rattle.volume_entry.specs.Manager.{Transfer}
 use Rattle.volume_entry.proofs.TableLists.{redirected_one, done_step, done_all, done-redirected}
 use Rattle.volume_entry.proofs.held.redirect.Goals as goal

@@ -1,5 +1,4 @@
-use Rattle.std.proofs.Common.{◌≡◌, ◌∙◌, sym, ap, None}
-use Rattle.unit_id.specs.Place.{Location}
+use Rattle.std.proofs.Common.{◌∙◌, sym, ap}
 use Rattle.volume_entry.specs.Manager.{moved, transfers_of}
 use Rattle.volume_entry.proofs.TableLists.{moved-none}
 use Rattle.volume_entry.proofs.held.swap_lock.Goals as goal

@@ -1,6 +1,6 @@
-use Rattle.std.proofs.Common.{◌≡◌, ◌∙◌, sym, ap, refl, ℕ, List, [], ◌∷◌, ◌++◌, take}
+use Rattle.std.proofs.Common.{◌≡◌, ◌∙◌, sym, ap, refl, ℕ, List, [], ◌∷◌, ◌++◌}
 use Rattle.unit_id.specs.Place.{Location}
-use Rattle.volume_entry.specs.Manager.{Grant, Transfer, home_at, transfers_to}
+use Rattle.volume_entry.specs.Manager.{Grant, Transfer, home_at}
 use Rattle.volume_entry.proofs.TableLists.{transfers_to-more}
 use Rattle.volume_entry.proofs.held.transfers_to.Goals as goal
 

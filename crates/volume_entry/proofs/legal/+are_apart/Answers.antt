@@ -1,4 +1,4 @@
-use Rattle.std.proofs.Common.{sym, length, ◌-◌, take, drop}
+use Rattle.std.proofs.Common.{length, ◌-◌, take, drop}
 use Rattle.volume_entry.proofs.Walks.{apart_both, apart_not, first_and_rest}
 use Rattle.volume_entry.proofs.legal.+are_apart.Goals as goal
 

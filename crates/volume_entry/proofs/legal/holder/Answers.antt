@@ -1,4 +1,4 @@
-use Rattle.std.proofs.Common.{◌≡◌, ◌∙◌, sym, ap, List, ℕ}
+use Rattle.std.proofs.Common.{◌≡◌, ◌∙◌, sym, ap, List}
 use Rattle.std.proofs.lemmas.List.{at_drop_all}
 use Rattle.unit_id.specs.Place.{Location}
 use Rattle.volume_entry.specs.ManagerStep.{holder}

@@ -1,4 +1,3 @@
-use Rattle.std.proofs.Common.{sym, refl}
 use Rattle.volume_entry.proofs.RecordKinds.{asked_has}
 use Rattle.volume_entry.proofs.RecordReads.{asked_is}
 use Rattle.volume_entry.proofs.reading.read_asked.Goals as goal

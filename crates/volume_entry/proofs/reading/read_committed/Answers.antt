@@ -1,4 +1,3 @@
-use Rattle.std.proofs.Common.{sym, refl}
 use Rattle.volume_entry.proofs.RecordKinds.{committed_has}
 use Rattle.volume_entry.proofs.RecordReads.{committed_is}
 use Rattle.volume_entry.proofs.reading.read_committed.Goals as goal

@@ -1,6 +1,5 @@
-use Rattle.std.proofs.Common.{◌≡◌, ◌+◌, ◌*◌, ◌++◌, ◌∷◌, [], List, ap, sym, ◌∙◌, subst, length, length-append, arith}
-use Rattle.std.specs.List.{flat_map}
-use Rattle.volume_entry.specs.Spelling.{grant_bytes, DoGrantsFit}
+use Rattle.std.proofs.Common.{◌∷◌, [], ap, length, length-append, arith}
+use Rattle.volume_entry.specs.Spelling.{grant_bytes}
 use Rattle.volume_entry.proofs.RecordLists.{grants_fit-push, bytes-split}
 use Rattle.volume_entry.proofs.reading.read_grants.Goals as goal
 

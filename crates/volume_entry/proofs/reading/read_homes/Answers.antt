@@ -1,6 +1,5 @@
-use Rattle.std.proofs.Common.{◌≡◌, ◌+◌, ◌*◌, ◌++◌, ◌∷◌, [], List, ap, sym, ◌∙◌, subst, length, length-append, arith}
-use Rattle.std.specs.List.{flat_map}
-use Rattle.volume_entry.specs.Spelling.{home_bytes, DoHomesFit}
+use Rattle.std.proofs.Common.{◌∷◌, [], ap, length, length-append, arith}
+use Rattle.volume_entry.specs.Spelling.{home_bytes}
 use Rattle.volume_entry.proofs.RecordLists.{homes_fit-push, bytes-split}
 use Rattle.volume_entry.proofs.reading.read_homes.Goals as goal
 

@@ -1,4 +1,3 @@
-use Rattle.std.proofs.Common.{sym, refl}
 use Rattle.volume_entry.proofs.RecordKinds.{leased_has}
 use Rattle.volume_entry.proofs.RecordReads.{leased_is}
 use Rattle.volume_entry.proofs.reading.read_leased.Goals as goal

@@ -1,6 +1,4 @@
-use Rattle.std.proofs.Common.{◌≡◌, ◌∙◌, sym, ap, ℕ, ◌*◌, ◌+◌, ◌-◌, ◌<◌, ◌≤◌, ◌^◌, length, drop, take, get_or, arith, length-drop}
-use Rattle.std.specs.List.{flat_map}
-use Rattle.volume_entry.specs.Spelling.{grant_bytes}
+use Rattle.std.proofs.Common.{◌≡◌, ◌∙◌, sym, ap, ◌*◌, ◌-◌, ◌<◌, ◌^◌, length, drop, take, get_or, arith}
 use Rattle.shard_record.proofs.TestLists.{rest_of}
 use Rattle.volume_entry.proofs.RecordKinds.{lock_has}
 use Rattle.volume_entry.proofs.RecordReads.{locked_is, locked_counts}

@@ -1,8 +1,6 @@
-use Rattle.std.proofs.Common.{◌≡◌, ◌∙◌, sym, ap, ℕ, ◌*◌, ◌+◌, ◌-◌, ◌<◌, ◌≤◌, ◌^◌, length, drop, take, get_or, arith, length-drop}
-use Rattle.std.specs.List.{flat_map}
+use Rattle.std.proofs.Common.{◌≡◌, ◌∙◌, sym, ap, ℕ, ◌*◌, ◌-◌, ◌<◌, ◌^◌, length, drop, take, get_or, arith}
 use Rattle.std.specs.Int.{w32, to_be_bytes, from_be_bytes}
 use Rattle.std.proofs.lemmas.Nat.{from_be_bytes-to_be_bytes_4}
-use Rattle.volume_entry.specs.Spelling.{home_bytes, mode_number}
 use Rattle.shard_record.proofs.TestLists.{rest_of}
 use Rattle.volume_entry.proofs.RecordKinds.{made_has}
 use Rattle.volume_entry.proofs.RecordReads.{made_is, made_parts}

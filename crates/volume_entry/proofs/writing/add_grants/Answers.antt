@@ -1,4 +1,3 @@
-use Rattle.std.proofs.Common.{◌≡◌, List}
 use Rattle.volume_entry.specs.Spelling.{grant_bytes}
 use Rattle.volume_entry.proofs.RecordLists.{grants_fit-more, bytes-more}
 use Rattle.volume_entry.proofs.writing.add_grants.Goals as goal

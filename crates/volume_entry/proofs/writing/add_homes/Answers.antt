@@ -1,4 +1,3 @@
-use Rattle.std.proofs.Common.{◌≡◌, List}
 use Rattle.volume_entry.specs.Spelling.{home_bytes}
 use Rattle.volume_entry.proofs.RecordLists.{homes_fit-more, bytes-more}
 use Rattle.volume_entry.proofs.writing.add_homes.Goals as goal

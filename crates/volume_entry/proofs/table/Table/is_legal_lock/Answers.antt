@@ -1,4 +1,4 @@
-use Rattle.std.proofs.Common.{◌≡◌, ◌∙◌, sym, arith}
+use Rattle.std.proofs.Common.{◌∙◌, sym, arith}
 use Rattle.volume_entry.specs.Manager.{IsLegalLock}
 use Rattle.volume_entry.specs.TableParts.{Tells, AreNextHomes, shape_of}
 use Rattle.volume_entry.proofs.Locks.{no_lock}

@@ -1,4 +1,4 @@
-use Rattle.std.proofs.Common.{◌≡◌, ◌∙◌, sym, ap, subst, List, false, true}
+use Rattle.std.proofs.Common.{◌≡◌, ◌∙◌, sym, ap, subst, List}
 use Rattle.std.specs.Prelude.{◌==◌, is_some}
 use Rattle.unit_id.specs.Lists.{any}
 use Rattle.volume_entry.specs.Manager.{Grant, Transfer, Lock, transfers_of, is_swapped, IsNextHome, IsLegalRetarget}

@@ -1,0 +1,8 @@
+use Rattle.std.proofs.Common.{◌≡◌, drop}
+use Rattle.unit_id.specs.Lists.{any}
+use Rattle.volume_entry.specs.HeardCounts.{lacks}
+use Rattle.volume_entry.specs.HeardMemory.{is_fenced_there}
+use Rattle.volume_entry.proofs.counting.some_lacks_fence.Given as goal
+
+abbrev pub invariant-loop-transfer : goal.invariant-loop-transfer
+invariant-loop-transfer l = any (lacks is_fenced_there l.moves l.broken) l.transfers ≡ any (lacks is_fenced_there l.moves l.broken) (drop l.transfer-index l.transfers)

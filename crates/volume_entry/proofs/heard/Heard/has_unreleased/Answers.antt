@@ -1,0 +1,12 @@
+use Rattle.std.proofs.Common.{◌∙◌, ap}
+use Rattle.unit_id.specs.Lists.{any}
+use Rattle.volume_entry.specs.HeardCounts.{lacks}
+use Rattle.volume_entry.specs.HeardMemory.{HeardMemory, is_released_there}
+use Rattle.volume_entry.proofs.HeardTallies.{lacks_tells}
+use Rattle.volume_entry.proofs.heard.Heard.has_unreleased.Goals as goal
+
+pub returns : goal.returns
+returns c total m told =
+    let was = c.deref.ensures.value ∙ ap (λ (h : HeardMemory). h.moves) c.self.view_is in
+    c.some_lacks_release.ensures ∙ ap (λ ms. any (lacks is_released_there ms c.args.broken.now) c.args.transfers.now) was
+    ∙ lacks_tells is_released_there c.args.self.now.moves m.heard.released c.args.broken.now c.args.transfers.now told.moves.released
