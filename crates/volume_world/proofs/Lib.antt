@@ -44,3 +44,7 @@ pub mod RunProofs
 pub mod Stretches
 pub mod Comings
 pub mod Telling
+pub mod FixedRows
+pub mod SameNumbers
+pub mod PutBooks
+pub mod Mailbags

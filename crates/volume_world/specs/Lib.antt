@@ -23,6 +23,9 @@ pub mod Examples
 pub mod Stories
 pub mod Trace
 pub mod Told
+pub mod FixedRows
+pub mod PutBook
+pub mod Mailbag
 pub mod Way
 pub mod Asking
 pub mod Replying

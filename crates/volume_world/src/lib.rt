@@ -5,12 +5,18 @@
 //! says which moves an entry of a history is. `specs/Invariant` has what every move keeps, a file each part.
 #![tactic(auto)]
 
+mod copies;
 mod event;
 pub mod examples;
 mod fault;
+mod keeping;
+mod late;
 pub mod laws;
 mod port;
+mod puts;
 mod reply;
+#[cfg(test)]
+mod tests;
 mod trace;
 
 pub use event::Event;
