@@ -233,12 +233,14 @@ live_right wanted u t home left blob_size bytes own r = go (blob_size == wanted.
 
 -- ---- one event
 
-heard_right : (vid : ℕ) (s : State) (mode : Mode) (unit : Name) (disk bid blob_size : ℕ) (bytes : List ℕ) (reply : ToldReply) → Tells vid s (kept_reply.Heard (kept_answer.Live blob_size)) reply
+-- what a live answer carries
+pub heard_right : (vid : ℕ) (s : State) (mode : Mode) (unit : Name) (disk bid blob_size : ℕ) (bytes : List ℕ) (reply : ToldReply) → Tells vid s (kept_reply.Heard (kept_answer.Live blob_size)) reply
     → IsWhole mode s.puts (events.Send (requests.Read unit disk bid)) (replies.Heard (answers.Live blob_size bytes)) reply → GivesRight mode s.puts (requests.Read unit disk bid) (answers.Live blob_size bytes)
 heard_right vid s mode unit disk bid blob_size bytes (ToldReply.Heard heard) told whole = whole.1
 heard_right vid s mode unit disk bid blob_size bytes reply told whole = absurd told
 
-seen_right : (vid : ℕ) (s : State) (view : View) (reply : ToldReply) → Tells vid s (kept_reply.Seen view) reply → view ≡ view_shown vid s.broken s.time s.manager
+-- what a look shows
+pub seen_right : (vid : ℕ) (s : State) (view : View) (reply : ToldReply) → Tells vid s (kept_reply.Seen view) reply → view ≡ view_shown vid s.broken s.time s.manager
 seen_right vid s view (ToldReply.Seen seen) told = told
 seen_right vid s view reply told = absurd told
 
@@ -309,6 +311,11 @@ comes_right origin wanted w v (Next.Go stage) to (Part.Asking event reply ∷ pa
     (asked_right origin wanted w leads.0 stage event reply same kept comes.0 leads.1 right)
 comes_right origin wanted w v (Next.Over given) to (Part.Asking event reply ∷ parts) same kept comes leads right = absurd comes
 comes_right origin wanted w v Next.Never to (Part.Asking event reply ∷ parts) same kept comes leads right = absurd comes
+
+-- a get that ends well gives the payload
+pub ends_right : (origin : Origin) (wanted : Wanted) (w v : World) (bytes : List ℕ) (parts : List Part) → wanted.mode ≡ origin.mode → Kept (shape_of origin) w.state
+    → Comes (get_call wanted) (Next.Go GetStage.First) parts (Next.Over (Ok bytes)) → PartsLead origin w parts v → IsPayload v wanted.bid bytes
+ends_right origin wanted w v bytes parts same kept comes leads = comes_right origin wanted w v (Next.Go GetStage.First) (Next.Over (Ok bytes)) parts same kept comes leads tt
 
 -- ---- whole gets
 

@@ -5,4 +5,12 @@ mod GetBytes
 mod Holding
 mod ShortPuts
 mod ShortGets
+mod Later
+mod LiveRows
+mod HeardReads
+mod LastTries
+mod LiveCounts
+mod ShortCauses
+mod GivenBlobs
+mod CauseExampleProofs
 mod StandInSteps

@@ -4,4 +4,6 @@ pub mod PutParts
 pub mod GetCall
 pub mod GetParts
 pub mod Lengths
+pub mod Causes
 pub mod StandIn
+pub mod CauseExamples

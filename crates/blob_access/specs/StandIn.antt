@@ -73,7 +73,7 @@ home_is (suc (suc (suc (suc zero)))) h = refl
 home_is (suc (suc (suc (suc (suc zero))))) h = refl
 home_is (suc (suc (suc (suc (suc (suc i)))))) h = absurd (omega arith)
 
-stand_first : IsFirst (shape_of stand_origin) stand_origin.start
+pub stand_first : IsFirst (shape_of stand_origin) stand_origin.start
 stand_first = record {
   homes = stand_homes;
   is_made = λ place. false;
