@@ -1,3 +1,6 @@
 mod TaskLemmas
 mod WorkLemmas
 mod StartLemmas
+mod MergeLemmas
+mod ToldLemmas
+mod GatherLemmas

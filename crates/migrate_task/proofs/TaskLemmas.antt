@@ -110,11 +110,11 @@ all_parts call a b from point xs i over h = subst (λ left. Proceeds call a b fr
 pub advances_whole : (old new : WayView) (task : Task) (result : Result (List Home) Halt) → GoesOn (task_call old.origin.mode task) old new (Next.Go TaskStage.Looking) result (λ units. Next.Over (Ok (stages.Done units)))
     → Advances old new task (ended result)
 advances_whole old new task (Err (halts.BrokenOff step_faults.HistoryFull)) h =
-    record { parts = h.proceeds.parts; goes = h.proceeds.goes; call = comes_front (task_call old.origin.mode task) (Next.Go TaskStage.Looking) h.proceeds.parts h.to h.proceeds.comes }
+    record { parts = h.proceeds.parts; goes = h.proceeds.goes; fits = h.proceeds.fits; call = comes_front (task_call old.origin.mode task) (Next.Go TaskStage.Looking) h.proceeds.parts h.to h.proceeds.comes }
 advances_whole old new task (Err (halts.BrokenOff step_faults.Memory)) h =
-    record { parts = h.proceeds.parts; goes = h.proceeds.goes; call = comes_front (task_call old.origin.mode task) (Next.Go TaskStage.Looking) h.proceeds.parts h.to h.proceeds.comes }
-advances_whole old new task (Err (halts.Waits why)) h = record { parts = h.parts; goes = h.goes; call = comes_rest (task_call old.origin.mode task) (Next.Go TaskStage.Looking) h.parts (Ok (stages.Waits why)) h.comes }
-advances_whole old new task (Err halts.EpochSpent) h = record { parts = h.parts; goes = h.goes; call = comes_rest (task_call old.origin.mode task) (Next.Go TaskStage.Looking) h.parts (Err faults.EpochSpent) h.comes }
-advances_whole old new task (Err halts.Fault) h = record { parts = h.parts; goes = h.goes; call = comes_rest (task_call old.origin.mode task) (Next.Go TaskStage.Looking) h.parts (Err faults.Fault) h.comes }
-advances_whole old new task (Err (halts.Spoiled place)) h = record { parts = h.parts; goes = h.goes; call = comes_rest (task_call old.origin.mode task) (Next.Go TaskStage.Looking) h.parts (Err (faults.Spoiled place)) h.comes }
-advances_whole old new task (Ok units) h = record { parts = h.parts; goes = h.goes; call = comes_rest (task_call old.origin.mode task) (Next.Go TaskStage.Looking) h.parts (Ok (stages.Done units)) h.comes }
+    record { parts = h.proceeds.parts; goes = h.proceeds.goes; fits = h.proceeds.fits; call = comes_front (task_call old.origin.mode task) (Next.Go TaskStage.Looking) h.proceeds.parts h.to h.proceeds.comes }
+advances_whole old new task (Err (halts.Waits why)) h = record { parts = h.parts; goes = h.goes; fits = h.fits; call = comes_rest (task_call old.origin.mode task) (Next.Go TaskStage.Looking) h.parts (Ok (stages.Waits why)) h.comes }
+advances_whole old new task (Err halts.EpochSpent) h = record { parts = h.parts; goes = h.goes; fits = h.fits; call = comes_rest (task_call old.origin.mode task) (Next.Go TaskStage.Looking) h.parts (Err faults.EpochSpent) h.comes }
+advances_whole old new task (Err halts.Fault) h = record { parts = h.parts; goes = h.goes; fits = h.fits; call = comes_rest (task_call old.origin.mode task) (Next.Go TaskStage.Looking) h.parts (Err faults.Fault) h.comes }
+advances_whole old new task (Err (halts.Spoiled place)) h = record { parts = h.parts; goes = h.goes; fits = h.fits; call = comes_rest (task_call old.origin.mode task) (Next.Go TaskStage.Looking) h.parts (Err (faults.Spoiled place)) h.comes }
+advances_whole old new task (Ok units) h = record { parts = h.parts; goes = h.goes; fits = h.fits; call = comes_rest (task_call old.origin.mode task) (Next.Go TaskStage.Looking) h.parts (Ok (stages.Done units)) h.comes }

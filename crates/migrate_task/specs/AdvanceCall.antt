@@ -18,6 +18,7 @@ use Rattle.volume_world.specs.declared.reply.Reply.TheVariants as replies
 use Rattle.volume_world.specs.Way.{WayView}
 use Rattle.volume_world.specs.Course.{Part, Goes}
 use Rattle.volume_world.specs.Call.{Next, Call, IsRest, IsFront}
+use Rattle.volume_world.specs.Progress.{AllFit}
 use Rattle.migrate_task.specs.declared.stage.Stage.{Stage}
 use Rattle.migrate_task.specs.declared.stage.Stage.TheVariants as stages
 use Rattle.migrate_task.specs.declared.stage.Why.{Why}
@@ -254,8 +255,9 @@ AdvancesBy mode task parts (Err faults.HistoryFull) = IsFront (task_call mode ta
 AdvancesBy mode task parts (Err faults.Memory) = IsFront (task_call mode task) (Next.Go TaskStage.Looking) parts
 AdvancesBy mode task parts result = IsRest (task_call mode task) (Next.Go TaskStage.Looking) parts result
 
--- one call of a task over a way
+-- One call of a task over a way. Each reply is one that its event may have.
 pub record Advances (old new : WayView) (task : Task) (result : Result Stage TaskFault) : Type 0 where
   pub parts : List Part
   pub goes : Goes old new parts
+  pub fits : AllFit old.origin parts
   pub call : AdvancesBy old.origin.mode task parts result

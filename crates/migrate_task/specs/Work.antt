@@ -1,11 +1,12 @@
 -- What a task knows of the volume while it works, and which blobs its destinations have still to get.
-use Rattle.std.specs.Prelude.{ℕ, ◌^◌, Bool, true, false, cond, not, ◌&&◌, ◌||◌, ◌==◌, nat_le, List, [], ◌∷◌, ◌++◌, length, filter, map, get_or}
+use Rattle.std.specs.Prelude.{ℕ, Bool, true, false, cond, not, ◌&&◌, ◌||◌, ◌==◌, nat_le, List, [], ◌∷◌, ◌++◌, length, filter, map, get_or}
 use Rattle.std.specs.List.{range_with_len}
 use Rattle.unit_id.specs.Lists.{any, is_in}
 use Rattle.unit_id.specs.declared.homes.Home.{Home}
 use Rattle.unit_id.specs.declared.moves.Move.{Move}
 use Rattle.code_mode.specs.declared.mode.Mode.{Mode}
 use Rattle.code_mode.specs.Mode.{data_count}
+use Rattle.code_mode.specs.VolumeShape.{last_time}
 use Rattle.migrate_task.specs.declared.work.Journey.{Journey}
 use Rattle.migrate_task.specs.declared.listing.Listing.{Listing}
 use Rattle.migrate_task.specs.declared.copying.Errand.{Errand}
@@ -89,6 +90,10 @@ abbrev pub errands_over : Work → List Listing → List Listing → List ℕ �
 errands_over work dests heard [] = []
 errands_over work dests heard (bid ∷ bids) = errands_of bid (due_of (data_count work.mode) heard bid) dests work.journeys ++ errands_over work dests heard bids
 
+-- those of so many blobs from the first one on
+unfoldable pub errands_up_to : ℕ → Work → List Listing → List Listing → List Errand
+errands_up_to count work dests heard = errands_over work dests heard (range_with_len 1 count)
+
 -- all of them, from the first blob to the last that there can be
 unfoldable pub errands : Work → List Listing → List Listing → List Errand
-errands work dests heard = errands_over work dests heard (range_with_len 1 (2 ^ 62))
+errands work dests heard = errands_up_to last_time work dests heard

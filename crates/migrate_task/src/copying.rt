@@ -13,6 +13,7 @@ ghost use Rattle.migrate_task.specs.Work.{Work as WorkView};
 ghost use Rattle.migrate_task.specs.declared.usable.KnownSize.{KnownSize};
 ghost use Rattle.migrate_task.specs.Copies.{CopyStage, copy_asks, next_errand};
 ghost use Rattle.migrate_task.specs.AdvanceCall.{TaskStage, task_call, copying, after_copy};
+ghost use Rattle.migrate_task.specs.Rows.{IsReadRight};
 ghost use Rattle.migrate_task.specs.TaskParts.{GoesOn, told};
 ghost use Rattle.std.specs.Prelude.{IfOk};
 
@@ -64,7 +65,7 @@ fn marked(reply: Reply, errand: &Errand) -> Result<(), Halt>
 }
 
 /// Marks a blob at its destination.
-fn mark<P: Port>(port: &mut P, errand: &Errand) -> Result<(), Halt>
+pub(crate) fn mark<P: Port>(port: &mut P, errand: &Errand) -> Result<(), Halt>
     requires unit { IsUnitOn (P.seen port.old).origin errand.now.journey.dest.unit errand.now.journey.dest.disk }
     requires number { IsBid errand.now.bid }
     ensures goes { (mode : ModeView) (task : TaskView) (work : WorkView) (known : Option KnownSize) (left : List ErrandView)
@@ -88,6 +89,7 @@ pub(crate) fn read<P: Port>(port: &mut P, bid: u64, home: &Home) -> Result<Reply
         → GoesOn (task_call mode task) (P.seen port.old) (P.seen port.new) (Next.Go (TaskStage.Copying work copy)) result (after_copy work copy) }
     ensures origin { (P.seen port.new).origin ≡ (P.seen port.old).origin }
     ensures replies { IfOk result RepliesSend }
+    ensures right { IfOk result (IsReadRight (P.seen port.new) bid home.now.unit.index) }
 {
     let unit = home.unit;
     let disk = home.disk;
@@ -119,7 +121,12 @@ fn written(reply: Reply, errand: &Errand) -> Result<(), Halt>
 }
 
 /// Writes a blob's shard at its destination.
-fn write<P: Port>(port: &mut P, errand: &Errand, blob_size: u32, bytes: Bytes) -> Result<(), Halt>
+pub(crate) fn write<P: Port>(
+    port: &mut P,
+    errand: &Errand,
+    blob_size: u32,
+    bytes: Bytes,
+) -> Result<(), Halt>
     requires { MayAsk (P.seen port.old) (Event.Send (CopyRequest errand.now.journey.dest.unit errand.now.journey.dest.disk errand.now.bid blob_size bytes)) }
     ensures goes { (mode : ModeView) (task : TaskView) (work : WorkView) (known : Option KnownSize) (left : List ErrandView)
         → GoesOn (task_call mode task) (P.seen port.old) (P.seen port.new) (Next.Go (TaskStage.Copying work (CopyStage.Writing known errand.now left blob_size bytes))) result

@@ -1,6 +1,6 @@
 //! Shards of other units, from which a lacking one is rebuilt.
 
-ghost use Rattle.std.specs.Prelude.{List, ◌≡◌};
+ghost use Rattle.std.specs.Prelude.{List, ◌≡◌, IfOk};
 ghost use Rattle.unit_id.specs.declared.homes.Home.{Home as HomeView};
 ghost use Rattle.unit_id.specs.declared.task.Task.{Task as TaskView};
 ghost use Rattle.code_mode.specs.declared.mode.Mode.{Mode as ModeView};
@@ -12,6 +12,7 @@ ghost use Rattle.migrate_task.specs.declared.copying.Errand.{Errand as ErrandVie
 ghost use Rattle.migrate_task.specs.Copies.{CopyStage};
 ghost use Rattle.migrate_task.specs.AdvanceCall.{TaskStage, task_call, copying, after_copy};
 ghost use Rattle.migrate_task.specs.TaskParts.{GoesOn, Makes, CanGather, work_of, other_heard};
+ghost use Rattle.migrate_task.specs.GatherParts.{Adds, AddsRight};
 
 use crate::copying::{Errand, read};
 use crate::halt::Halt;
@@ -42,7 +43,8 @@ fn hear_live(
     bytes: Bytes,
 ) -> Result<Option<u32>, Halt>
     requires { CanGather work.now.mode known errand.now.bid home.now.unit.index gathered.old }
-    ensures { (left : List ErrandView) (homes : List HomeView)
+    ensures adds { IfOk result (Adds work.now.mode known errand.now.bid home.now.unit.index gathered.old gathered.new (Reply.Heard (Answer.Live size bytes))) }
+    ensures makes { (left : List ErrandView) (homes : List HomeView)
         → Makes result (λ found. copying (work_of work.now) (other_heard (work_of work.now) known errand.now left gathered.new homes found))
         (after_copy (work_of work.now) (CopyStage.ReadingOther known errand.now left gathered.old home.now homes) (Reply.Heard (Answer.Live size bytes))) }
 {
@@ -66,7 +68,8 @@ fn hear(
 ) -> Result<Option<u32>, Halt>
     requires reply { RepliesSend reply }
     requires gathers { CanGather work.now.mode known errand.now.bid home.now.unit.index gathered.old }
-    ensures { (left : List ErrandView) (homes : List HomeView)
+    ensures adds { IfOk result (Adds work.now.mode known errand.now.bid home.now.unit.index gathered.old gathered.new reply) }
+    ensures makes { (left : List ErrandView) (homes : List HomeView)
         → Makes result (λ found. copying (work_of work.now) (other_heard (work_of work.now) known errand.now left gathered.new homes found))
         (after_copy (work_of work.now) (CopyStage.ReadingOther known errand.now left gathered.old home.now homes) reply) }
 {
@@ -86,7 +89,7 @@ fn hear(
 }
 
 /// Reads one other unit: the size of the blob, where its row can be used.
-fn read_other<P: Port>(
+pub(crate) fn read_other<P: Port>(
     port: &mut P,
     work: &Work,
     known: Option<KnownSize>,
@@ -101,6 +104,7 @@ fn read_other<P: Port>(
         → GoesOn (task_call mode task) (P.seen port.old) (P.seen port.new) (Next.Go (TaskStage.Copying (work_of work.now) (CopyStage.ReadingOther known errand.now left gathered.old home.now homes))) result
         (λ found. copying (work_of work.now) (other_heard (work_of work.now) known errand.now left gathered.new homes found)) }
     ensures origin { (P.seen port.new).origin ≡ (P.seen port.old).origin }
+    ensures adds { IfOk result (AddsRight (P.seen port.new) work.now.mode known errand.now.bid home.now.unit.index gathered.old gathered.new) }
 {
     let reply = read(port, errand.bid, home)?;
     hear(reply, work, known, errand, home, gathered)

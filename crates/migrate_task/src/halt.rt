@@ -5,6 +5,7 @@ ghost use Rattle.code_mode.specs.declared.mode.Mode.{Mode as ModeView};
 ghost use Rattle.unit_id.specs.declared.task.Task.{Task as TaskView};
 ghost use Rattle.volume_world.specs.Asking.{MayAsk};
 ghost use Rattle.volume_world.specs.Replying.{MayReply, ShowsMoves};
+ghost use Rattle.volume_world.specs.Course.{Happens};
 ghost use Rattle.volume_world.specs.Call.{Next};
 ghost use Rattle.volume_world.specs.declared.fault.StepFault.TheVariants.{Memory};
 ghost use Rattle.migrate_task.specs.declared.halt.Halt.TheVariants.{BrokenOff};
@@ -70,6 +71,7 @@ pub(crate) fn step<P: Port>(port: &mut P, event: Event) -> Result<Reply, Halt>
     ensures origin { (P.seen port.new).origin ≡ (P.seen port.old).origin }
     ensures fits { IfOk result (MayReply (P.seen port.old).origin event) }
     ensures moves { IfOk result (ShowsMoves (P.seen port.old).origin) }
+    ensures happens { IfOk result (Happens (P.seen port.old) (P.seen port.new) event) }
 {
     match port.step(event) {
         Ok(reply) => Ok(reply),

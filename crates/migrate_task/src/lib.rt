@@ -3,19 +3,26 @@
 //! What a task asks in which order, and what each reply makes of it, stands in `specs/AdvanceCall` and, for the copies,
 //! `specs/Copies`. A task keeps nothing between calls: one that ended early goes on from what the volume shows.
 //!
-//! Written are the parts of the call: `starting` has the lock in the end, `course` goes from there to the listings, and from
-//! the swap to the end; `copying`, `old_shard` and `gathering` have the single steps of a copy. What joins these steps to a
-//! copy and all of them to the call isn't written yet.
+//! `advance` is one call. `starting` has the lock in the end, `course` goes from there to the listings, and from the swap
+//! to the end. `merging` says what destinations lack by listings in order (`ordered`), `rebuilding` gets a lacking shard
+//! from the old unit or those of others, and `copies` does one errand behind the other. Where files tell, every shard
+//! that is written is the one that belongs to its unit, of the payload with which its blob was begun (`specs/Rows`). What
+//! else the parts need and say stands in `specs/TaskParts`, `specs/GatherParts` and `specs/Merging`.
 #![tactic(auto)]
 
+mod advancing;
+mod copies;
 mod copying;
 mod course;
 mod gathering;
 mod halt;
 mod listing;
 mod locking;
+mod merging;
 mod old_shard;
+mod ordered;
 mod preparing;
+mod rebuilding;
 mod retargeting;
 mod stage;
 mod starting;
@@ -23,4 +30,5 @@ mod swapping;
 mod usable;
 mod work;
 
+pub use advancing::advance;
 pub use stage::{Stage, TaskFault, Why};

@@ -1,6 +1,6 @@
 //! The shard of a blob that a destination lacks, as the old unit has it.
 
-ghost use Rattle.std.specs.Prelude.{List, ◌≡◌};
+ghost use Rattle.std.specs.Prelude.{List, ◌≡◌, IfOk};
 ghost use Rattle.unit_id.specs.declared.task.Task.{Task as TaskView};
 ghost use Rattle.code_mode.specs.declared.mode.Mode.{Mode as ModeView};
 ghost use Rattle.volume_entry.specs.Manager.{IsBid};
@@ -11,6 +11,7 @@ ghost use Rattle.migrate_task.specs.declared.copying.Errand.{Errand as ErrandVie
 ghost use Rattle.migrate_task.specs.Copies.{CopyStage};
 ghost use Rattle.migrate_task.specs.AdvanceCall.{TaskStage, task_call, copying, after_copy};
 ghost use Rattle.migrate_task.specs.TaskParts.{GoesOn, told, work_of, old_heard};
+ghost use Rattle.migrate_task.specs.GatherParts.{IsOldRow, IsOldRight};
 
 use crate::copying::{Errand, read};
 use crate::halt::Halt;
@@ -45,7 +46,8 @@ fn live_row(
     size: u32,
     bytes: Bytes,
 ) -> OldShard
-    ensures { (left : List ErrandView)
+    ensures row { IsOldRow work.now.mode known errand.now.bid (Reply.Heard (Answer.Live size bytes)) result }
+    ensures makes { (left : List ErrandView)
         → copying (work_of work.now) (old_heard (work_of work.now) known errand.now left result) ≡ after_copy (work_of work.now) (CopyStage.ReadingOld known errand.now left) (Reply.Heard (Answer.Live size bytes)) }
 {
     if !is_usable(work.mode, known, errand.bid, size, &bytes) {
@@ -62,7 +64,8 @@ fn old_read(
     errand: &Errand,
 ) -> Result<OldShard, Halt>
     requires { RepliesSend reply }
-    ensures { (left : List ErrandView)
+    ensures row { IfOk result (IsOldRow work.now.mode known errand.now.bid reply) }
+    ensures makes { (left : List ErrandView)
         → told result (λ old. copying (work_of work.now) (old_heard (work_of work.now) known errand.now left old)) ≡ after_copy (work_of work.now) (CopyStage.ReadingOld known errand.now left) reply }
 {
     match reply {
@@ -78,7 +81,7 @@ fn old_read(
 }
 
 /// Reads the shard of the old unit.
-fn read_old<P: Port>(
+pub(crate) fn read_old<P: Port>(
     port: &mut P,
     work: &Work,
     known: Option<KnownSize>,
@@ -90,6 +93,7 @@ fn read_old<P: Port>(
         → GoesOn (task_call mode task) (P.seen port.old) (P.seen port.new) (Next.Go (TaskStage.Copying (work_of work.now) (CopyStage.ReadingOld known errand.now left))) result
         (λ old. copying (work_of work.now) (old_heard (work_of work.now) known errand.now left old)) }
     ensures origin { (P.seen port.new).origin ≡ (P.seen port.old).origin }
+    ensures right { IfOk result (IsOldRight (P.seen port.new) work.now.mode errand.now.bid errand.now.journey.old.unit.index) }
 {
     let home = errand.journey.old;
     let reply = read(port, errand.bid, &home)?;

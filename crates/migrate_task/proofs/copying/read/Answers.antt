@@ -3,6 +3,7 @@ use Rattle.volume_world.specs.declared.event.Event.TheVariants as events
 use Rattle.volume_world.specs.Call.{Next}
 use Rattle.migrate_task.specs.AdvanceCall.{TaskStage, task_call, task_after, after_copy}
 use Rattle.migrate_task.proofs.TaskLemmas.{fails_on}
+use Rattle.migrate_task.proofs.ToldLemmas.{read_right}
 use Rattle.migrate_task.proofs.copying.read.Goals as goal
 
 pub returns-in_err-reply-clause-goes : goal.returns-in_err-reply-clause-goes
@@ -16,3 +17,8 @@ returns-clause-goes g c = λ mode task work copy asked. c.in_ok-reply.ensures.st
 
 pub returns-clause-replies : goal.returns-clause-replies
 returns-clause-replies g c = c.in_ok-reply.ensures.fits
+
+pub returns-clause-right : goal.returns-clause-right
+returns-clause-right g c =
+    read_right (g.P.Port.seen c.args.port.now) (g.P.Port.seen c.step.new.port) c.args.home.now.unit c.args.home.now.disk c.args.bid c.in_ok-reply.reply (g.met.P.Port.is_way c.args.port.now) (g.met.P.Port.is_way c.step.new.port)
+    c.in_ok-reply.ensures.happens

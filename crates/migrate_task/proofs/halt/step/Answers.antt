@@ -22,3 +22,6 @@ returns-in-Err-clause-steps g c = λ mode task stage e. record { to = Next.Go st
 
 pub returns-in-Err-clause-origin : goal.returns-in-Err-clause-origin
 returns-in-Err-clause-origin g c = same_origin _ _ c.args.event (Err c.in-Err.fault) c.in-Err.ensures
+
+pub returns-in-Ok-clause-happens : goal.returns-in-Ok-clause-happens
+returns-in-Ok-clause-happens g c = c.in-Ok.ensures
