@@ -1,5 +1,7 @@
 //! A station over a shelf in memory: a unit from its making to its end, calls that fail, and many units.
 
+ghost use Rattle.std.specs.Prelude.{◌≡◌, IfOk};
+
 use crate::Station;
 use crate::tests::{Heard, word};
 use disk_base::MemShelf;
@@ -15,8 +17,15 @@ fn station(alloc: Global, fails: Vec<u64>) -> Station<MemShelf> {
     Station::make(alloc, MemShelf::new(alloc, fails), 1, 3)
 }
 
+/// A unit of the station's volume.
+fn unit_of(station: &Station<MemShelf>, index: u8, epoch: u32) -> Result<UnitName, Fail>
+    ensures { IfOk result (λ unit. unit.vid ≡ station.now.vid) }
+{
+    Ok(UnitName::new(station.vid(), index, epoch)?)
+}
+
 fn create(station: &mut Station<MemShelf>, index: u8, epoch: u32) -> Result<Heard, Fail> {
-    let unit = UnitName::new(station.vid(), index, epoch)?;
+    let unit = unit_of(station, index, epoch)?;
     let request = Request::Create {
         unit,
         disk: station.disk(),
@@ -30,7 +39,7 @@ fn put(
     station: &mut Station<MemShelf>,
     bid: u64,
 ) -> Result<(Option<bool>, Heard), Fail> {
-    let unit = UnitName::new(station.vid(), 0, 1)?;
+    let unit = unit_of(station, 0, 1)?;
     let request = Request::Put {
         unit,
         disk: station.disk(),
@@ -43,7 +52,7 @@ fn put(
 }
 
 fn read(station: &mut Station<MemShelf>, index: u8, epoch: u32) -> Result<Heard, Fail> {
-    let unit = UnitName::new(station.vid(), index, epoch)?;
+    let unit = unit_of(station, index, epoch)?;
     let request = Request::Read {
         unit,
         disk: station.disk(),
@@ -53,7 +62,7 @@ fn read(station: &mut Station<MemShelf>, index: u8, epoch: u32) -> Result<Heard,
 }
 
 fn mark(station: &mut Station<MemShelf>) -> Result<Heard, Fail> {
-    let unit = UnitName::new(station.vid(), 0, 1)?;
+    let unit = unit_of(station, 0, 1)?;
     let request = Request::Mark {
         unit,
         disk: station.disk(),
@@ -63,7 +72,7 @@ fn mark(station: &mut Station<MemShelf>) -> Result<Heard, Fail> {
 }
 
 fn free(station: &mut Station<MemShelf>) -> Result<Heard, Fail> {
-    let unit = UnitName::new(station.vid(), 0, 1)?;
+    let unit = unit_of(station, 0, 1)?;
     let request = Request::Free {
         unit,
         disk: station.disk(),
@@ -73,7 +82,7 @@ fn free(station: &mut Station<MemShelf>) -> Result<Heard, Fail> {
 }
 
 fn fence(station: &mut Station<MemShelf>, lock: u64) -> Result<(Option<bool>, Heard), Fail> {
-    let unit = UnitName::new(station.vid(), 0, 1)?;
+    let unit = unit_of(station, 0, 1)?;
     let request = Request::Fence {
         unit,
         disk: station.disk(),
@@ -84,7 +93,7 @@ fn fence(station: &mut Station<MemShelf>, lock: u64) -> Result<(Option<bool>, He
 }
 
 fn list(station: &mut Station<MemShelf>) -> Result<Heard, Fail> {
-    let unit = UnitName::new(station.vid(), 0, 1)?;
+    let unit = unit_of(station, 0, 1)?;
     let request = Request::List {
         unit,
         disk: station.disk(),
@@ -94,7 +103,7 @@ fn list(station: &mut Station<MemShelf>) -> Result<Heard, Fail> {
 }
 
 fn release(station: &mut Station<MemShelf>) -> Result<(Option<bool>, Heard), Fail> {
-    let unit = UnitName::new(station.vid(), 0, 1)?;
+    let unit = unit_of(station, 0, 1)?;
     let request = Request::Release {
         unit,
         disk: station.disk(),
