@@ -1,6 +1,8 @@
+mod CutLemmas
 mod TaskLemmas
 mod WorkLemmas
 mod StartLemmas
 mod MergeLemmas
 mod ToldLemmas
 mod GatherLemmas
+mod StandInSteps

@@ -1,28 +1,33 @@
 -- Lemmas on the parts of a task's call.
-use Rattle.std.proofs.Common.{◌≡◌, ℕ, ◌+◌, ◌<◌, ◌≤◌, List, [], ◌∷◌, length, drop, get_or, Result, Ok, Err, refl, sym, ◌∙◌, ap, subst, arith}
+use Rattle.std.proofs.Common.{◌≡◌, ℕ, ◌+◌, ◌<◌, ◌≤◌, true, false, List, [], ◌∷◌, length, drop, get_or, Result, Ok, Err, refl, sym, ◌∙◌, ap, subst, arith}
 use Rattle.std.proofs.lemmas.List.{append-nil, at_drop_more, drop_all}
 use Rattle.volume_world.specs.declared.event.Event.{Event}
 use Rattle.volume_world.specs.declared.reply.Reply.{Reply}
 use Rattle.volume_world.specs.declared.fault.StepFault.{StepFault}
 use Rattle.volume_world.specs.declared.fault.StepFault.TheVariants as step_faults
-use Rattle.volume_world.specs.Way.{WayView}
+use Rattle.volume_world.specs.Way.{WayView, longest_history}
 use Rattle.volume_world.specs.Course.{Goes, StepsBy}
 use Rattle.volume_world.specs.Progress.{Proceeds}
-use Rattle.volume_world.proofs.Comings.{proceeds_on, comes_rest, comes_front}
+use Rattle.volume_world.proofs.Comings.{step_proceeds, proceeds_on, comes_rest, comes_front}
 use Rattle.volume_world.specs.Call.{Next}
 use Rattle.unit_id.specs.declared.homes.Home.{Home}
 use Rattle.unit_id.specs.declared.task.Task.{Task}
+use Rattle.volume_world.specs.declared.trace.Trace.{Trace}
+use Rattle.migrate_task.specs.declared.stage.Stage.{Stage}
 use Rattle.migrate_task.specs.declared.stage.Stage.TheVariants as stages
+use Rattle.migrate_task.specs.declared.stage.TaskFault.{TaskFault}
 use Rattle.migrate_task.specs.declared.stage.TaskFault.TheVariants as faults
 use Rattle.migrate_task.specs.declared.halt.Halt.{Halt}
 use Rattle.migrate_task.specs.declared.halt.Halt.TheVariants as halts
-use Rattle.migrate_task.specs.AdvanceCall.{TaskStage, TaskNext, task_call, Advances}
-use Rattle.migrate_task.specs.TaskParts.{TaskCall, told, GoesOn, Makes, ended}
+use Rattle.migrate_task.specs.AdvanceCall.{TaskStage, TaskNext, task_call, AdvancesBy, Advances}
+use Rattle.migrate_task.specs.TaskParts.{TaskCall, is_cut, told, GoesOn, Makes, ended}
+use Rattle.migrate_task.proofs.CutLemmas.{comes_uncut}
 
 -- what a reply makes of a stage, and what the answer of a part makes of it, are one
 pub goes_told : {T : Type 0} (call : TaskCall) (old new : WayView) (from to : TaskNext) (result : Result T Halt) (then : T → TaskNext) → told result then ≡ to → Proceeds call old new from to
     → GoesOn call old new from result then
-goes_told call old new from to (Err (halts.BrokenOff fault)) then e h = record { to = to; proceeds = h }
+goes_told call old new from to (Err (halts.BrokenOff step_faults.HistoryFull)) then e h = record { to = to; proceeds = h; full = λ uncut. absurd (let both : true ≡ false = ap is_cut e ∙ uncut in cc) }
+goes_told call old new from to (Err (halts.BrokenOff step_faults.Memory)) then e h = record { to = to; proceeds = h }
 goes_told call old new from to (Err (halts.Waits why)) then e h = subst (λ next. Proceeds call old new from next) (sym e) h
 goes_told call old new from to (Err halts.EpochSpent) then e h = subst (λ next. Proceeds call old new from next) (sym e) h
 goes_told call old new from to (Err halts.Fault) then e h = subst (λ next. Proceeds call old new from next) (sym e) h
@@ -32,7 +37,8 @@ goes_told call old new from to (Ok given) then e h = subst (λ next. Proceeds ca
 -- .. so too where memory may not suffice
 pub goes_made : {T : Type 0} (call : TaskCall) (old new : WayView) (from to : TaskNext) (result : Result T Halt) (then : T → TaskNext) → Makes result then to → Proceeds call old new from to
     → GoesOn call old new from result then
-goes_made call old new from to (Err (halts.BrokenOff fault)) then e h = record { to = to; proceeds = h }
+goes_made call old new from to (Err (halts.BrokenOff step_faults.HistoryFull)) then e h = record { to = to; proceeds = h; full = λ uncut. absurd (let both : true ≡ false = ap is_cut e ∙ uncut in cc) }
+goes_made call old new from to (Err (halts.BrokenOff step_faults.Memory)) then e h = record { to = to; proceeds = h }
 goes_made call old new from to (Err (halts.Waits why)) then e h = subst (λ next. Proceeds call old new from next) (sym e) h
 goes_made call old new from to (Err halts.EpochSpent) then e h = subst (λ next. Proceeds call old new from next) (sym e) h
 goes_made call old new from to (Err halts.Fault) then e h = subst (λ next. Proceeds call old new from next) (sym e) h
@@ -42,7 +48,8 @@ goes_made call old new from to (Ok given) then e h = subst (λ next. Proceeds ca
 -- one part behind the other
 pub part_on : {T : Type 0} (call : TaskCall) (a b c : WayView) (from at : TaskNext) (result : Result T Halt) (then : T → TaskNext) → Proceeds call a b from at → GoesOn call b c at result then
     → GoesOn call a c from result then
-part_on call a b c from at (Err (halts.BrokenOff fault)) then h k = record { to = k.to; proceeds = proceeds_on call a b c from at k.to h k.proceeds }
+part_on call a b c from at (Err (halts.BrokenOff step_faults.HistoryFull)) then h k = record { to = k.to; proceeds = proceeds_on call a b c from at k.to h k.proceeds; full = k.full }
+part_on call a b c from at (Err (halts.BrokenOff step_faults.Memory)) then h k = record { to = k.to; proceeds = proceeds_on call a b c from at k.to h k.proceeds }
 part_on call a b c from at (Err (halts.Waits why)) then h k = proceeds_on call a b c from at (told (Err (halts.Waits why)) then) h k
 part_on call a b c from at (Err halts.EpochSpent) then h k = proceeds_on call a b c from at (told (Err halts.EpochSpent) then) h k
 part_on call a b c from at (Err halts.Fault) then h k = proceeds_on call a b c from at (told (Err halts.Fault) then) h k
@@ -51,7 +58,8 @@ part_on call a b c from at (Ok given) then h k = proceeds_on call a b c from at 
 
 failed : {T U : Type 0} (call : TaskCall) (old new : WayView) (from : TaskNext) (halt : Halt) (then : T → TaskNext) (after : U → TaskNext) → GoesOn {T = T} call old new from (Err halt) then
     → GoesOn {T = U} call old new from (Err halt) after
-failed call old new from (halts.BrokenOff fault) then after h = h
+failed call old new from (halts.BrokenOff step_faults.HistoryFull) then after h = h
+failed call old new from (halts.BrokenOff step_faults.Memory) then after h = h
 failed call old new from (halts.Waits why) then after h = h
 failed call old new from halts.EpochSpent then after h = h
 failed call old new from halts.Fault then after h = h
@@ -63,10 +71,20 @@ pub fails_on : {T U : Type 0} (call : TaskCall) (old new : WayView) (from : Task
 fails_on {T} {U} call old new from halt result then after e h =
     subst (λ r. GoesOn {T = U} call old new from r after) (sym e) (failed {T = T} {U = U} call old new from halt then after h)
 
--- where a part breaks off, the call has come as far as before
-pub breaks_off : {U : Type 0} (call : TaskCall) (old new : WayView) (from at : TaskNext) (fault : StepFault) (result : Result U Halt) (after : U → TaskNext) → result ≡ Err (halts.BrokenOff fault)
+-- where memory is out, the call has come as far as before
+pub breaks_off : {U : Type 0} (call : TaskCall) (old new : WayView) (from at : TaskNext) (result : Result U Halt) (after : U → TaskNext) → result ≡ Err (halts.BrokenOff step_faults.Memory)
     → Proceeds call old new from at → GoesOn {T = U} call old new from result after
-breaks_off {U} call old new from at fault result after e h = subst (λ r. GoesOn {T = U} call old new from r after) (sym e) (record { to = at; proceeds = h })
+breaks_off {U} call old new from at result after e h = subst (λ r. GoesOn {T = U} call old new from r after) (sym e) (record { to = at; proceeds = h })
+
+-- a step that isn't done
+pub stops : {T : Type 0} (call : TaskCall) (old new : WayView) (stage : TaskStage) (event : Event) (fault : StepFault) (then : T → TaskNext) → event ≡ call.asks stage → StepsBy old new event (Err fault)
+    → GoesOn {T = T} call old new (Next.Go stage) (Err (halts.BrokenOff fault)) then
+stops call old new stage event step_faults.HistoryFull then asked h = record {
+  to = Next.Go stage;
+  proceeds = step_proceeds call old new stage event (Err step_faults.HistoryFull) asked h;
+  full = λ uncut. subst (λ (entries : List Trace). longest_history ≤ length entries) (sym h.goes.entries) h.full;
+}
+stops call old new stage event step_faults.Memory then asked h = record { to = Next.Go stage; proceeds = step_proceeds call old new stage event (Err step_faults.Memory) asked h }
 
 pub goes_nowhere : (a : WayView) → Goes a a []
 goes_nowhere a = record {
@@ -106,15 +124,30 @@ all_parts call a b from point xs i over h = subst (λ left. Proceeds call a b fr
 
 -- ---- whole calls
 
+-- a call that comes to its answer
+answers_whole : (old new : WayView) (task : Task) (result : Result Stage TaskFault) → (result ≡ Err faults.HistoryFull → ⊥)
+    → (h : Proceeds (task_call old.origin.mode task) old new (Next.Go TaskStage.Looking) (Next.Over result)) → AdvancesBy old.origin.mode task h.parts result → Advances old new task result
+answers_whole old new task result other h call = record { parts = h.parts; goes = h.goes; fits = h.fits; call = call; full = λ e. absurd (other e) }
+
 -- a call that comes to its end, or breaks off
 pub advances_whole : (old new : WayView) (task : Task) (result : Result (List Home) Halt) → GoesOn (task_call old.origin.mode task) old new (Next.Go TaskStage.Looking) result (λ units. Next.Over (Ok (stages.Done units)))
     → Advances old new task (ended result)
-advances_whole old new task (Err (halts.BrokenOff step_faults.HistoryFull)) h =
-    record { parts = h.proceeds.parts; goes = h.proceeds.goes; fits = h.proceeds.fits; call = comes_front (task_call old.origin.mode task) (Next.Go TaskStage.Looking) h.proceeds.parts h.to h.proceeds.comes }
-advances_whole old new task (Err (halts.BrokenOff step_faults.Memory)) h =
-    record { parts = h.proceeds.parts; goes = h.proceeds.goes; fits = h.proceeds.fits; call = comes_front (task_call old.origin.mode task) (Next.Go TaskStage.Looking) h.proceeds.parts h.to h.proceeds.comes }
-advances_whole old new task (Err (halts.Waits why)) h = record { parts = h.parts; goes = h.goes; fits = h.fits; call = comes_rest (task_call old.origin.mode task) (Next.Go TaskStage.Looking) h.parts (Ok (stages.Waits why)) h.comes }
-advances_whole old new task (Err halts.EpochSpent) h = record { parts = h.parts; goes = h.goes; fits = h.fits; call = comes_rest (task_call old.origin.mode task) (Next.Go TaskStage.Looking) h.parts (Err faults.EpochSpent) h.comes }
-advances_whole old new task (Err halts.Fault) h = record { parts = h.parts; goes = h.goes; fits = h.fits; call = comes_rest (task_call old.origin.mode task) (Next.Go TaskStage.Looking) h.parts (Err faults.Fault) h.comes }
-advances_whole old new task (Err (halts.Spoiled place)) h = record { parts = h.parts; goes = h.goes; fits = h.fits; call = comes_rest (task_call old.origin.mode task) (Next.Go TaskStage.Looking) h.parts (Err (faults.Spoiled place)) h.comes }
-advances_whole old new task (Ok units) h = record { parts = h.parts; goes = h.goes; fits = h.fits; call = comes_rest (task_call old.origin.mode task) (Next.Go TaskStage.Looking) h.parts (Ok (stages.Done units)) h.comes }
+advances_whole old new task (Err (halts.BrokenOff step_faults.HistoryFull)) h = record {
+  parts = h.proceeds.parts;
+  goes = h.proceeds.goes;
+  fits = h.proceeds.fits;
+  call = comes_front (task_call old.origin.mode task) (Next.Go TaskStage.Looking) h.proceeds.parts h.to h.proceeds.comes;
+  full = λ e. h.full (comes_uncut old.origin.mode task (Next.Go TaskStage.Looking) h.proceeds.parts h.to refl h.proceeds.comes);
+}
+advances_whole old new task (Err (halts.BrokenOff step_faults.Memory)) h = record {
+  parts = h.proceeds.parts;
+  goes = h.proceeds.goes;
+  fits = h.proceeds.fits;
+  call = comes_front (task_call old.origin.mode task) (Next.Go TaskStage.Looking) h.proceeds.parts h.to h.proceeds.comes;
+  full = λ e. absurd (cc);
+}
+advances_whole old new task (Err (halts.Waits why)) h = answers_whole old new task (Ok (stages.Waits why)) (λ e. absurd (cc)) h (comes_rest (task_call old.origin.mode task) (Next.Go TaskStage.Looking) h.parts (Ok (stages.Waits why)) h.comes)
+advances_whole old new task (Err halts.EpochSpent) h = answers_whole old new task (Err faults.EpochSpent) (λ e. absurd (cc)) h (comes_rest (task_call old.origin.mode task) (Next.Go TaskStage.Looking) h.parts (Err faults.EpochSpent) h.comes)
+advances_whole old new task (Err halts.Fault) h = answers_whole old new task (Err faults.Fault) (λ e. absurd (cc)) h (comes_rest (task_call old.origin.mode task) (Next.Go TaskStage.Looking) h.parts (Err faults.Fault) h.comes)
+advances_whole old new task (Err (halts.Spoiled place)) h = answers_whole old new task (Err (faults.Spoiled place)) (λ e. absurd (cc)) h (comes_rest (task_call old.origin.mode task) (Next.Go TaskStage.Looking) h.parts (Err (faults.Spoiled place)) h.comes)
+advances_whole old new task (Ok units) h = answers_whole old new task (Ok (stages.Done units)) (λ e. absurd (cc)) h (comes_rest (task_call old.origin.mode task) (Next.Go TaskStage.Looking) h.parts (Ok (stages.Done units)) h.comes)

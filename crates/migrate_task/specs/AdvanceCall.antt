@@ -1,5 +1,5 @@
 -- A call of a task: the lock, the destinations made, the old units fenced, listings, copies, the swap, the old units released, and the unlock.
-use Rattle.std.specs.Prelude.{ℕ, false, cond, ◌==◌, nat_lt, List, [], ◌∷◌, ◌++◌, length, map, filter, Option, Some, None, Result, Ok, Err}
+use Rattle.std.specs.Prelude.{ℕ, ◌≡◌, ◌≤◌, false, cond, ◌==◌, nat_lt, List, [], ◌∷◌, ◌++◌, length, map, filter, Option, Some, None, Result, Ok, Err}
 use Rattle.std.specs.List.{list_any}
 use Rattle.unit_id.specs.declared.homes.Home.{Home}
 use Rattle.unit_id.specs.declared.moves.Move.{Move}
@@ -15,7 +15,7 @@ use Rattle.volume_world.specs.declared.event.Event.{Event}
 use Rattle.volume_world.specs.declared.event.Event.TheVariants as events
 use Rattle.volume_world.specs.declared.reply.Reply.{Reply}
 use Rattle.volume_world.specs.declared.reply.Reply.TheVariants as replies
-use Rattle.volume_world.specs.Way.{WayView}
+use Rattle.volume_world.specs.Way.{WayView, longest_history}
 use Rattle.volume_world.specs.Course.{Part, Goes}
 use Rattle.volume_world.specs.Call.{Next, Call, IsRest, IsFront}
 use Rattle.volume_world.specs.Progress.{AllFit}
@@ -255,9 +255,10 @@ AdvancesBy mode task parts (Err faults.HistoryFull) = IsFront (task_call mode ta
 AdvancesBy mode task parts (Err faults.Memory) = IsFront (task_call mode task) (Next.Go TaskStage.Looking) parts
 AdvancesBy mode task parts result = IsRest (task_call mode task) (Next.Go TaskStage.Looking) parts result
 
--- One call of a task over a way. Each reply is one that its event may have.
+-- One call of a task over a way. Each reply is one that its event may have. The history is said to be full only where it is.
 pub record Advances (old new : WayView) (task : Task) (result : Result Stage TaskFault) : Type 0 where
   pub parts : List Part
   pub goes : Goes old new parts
   pub fits : AllFit old.origin parts
   pub call : AdvancesBy old.origin.mode task parts result
+  pub full : result ≡ Err faults.HistoryFull → longest_history ≤ length new.entries

@@ -5,3 +5,4 @@ pub mod TaskParts
 pub mod Merging
 pub mod Rows
 pub mod GatherParts
+pub mod StandIn

@@ -14,7 +14,7 @@ use Rattle.volume_entry.specs.ManagerStep.{AreTargetsInOrder}
 use Rattle.volume_entry.specs.declared.view.LockView.{LockView}
 use Rattle.volume_world.specs.declared.fault.StepFault.{StepFault}
 use Rattle.volume_world.specs.declared.fault.StepFault.TheVariants as step_faults
-use Rattle.volume_world.specs.Way.{Origin, WayView, shape_of}
+use Rattle.volume_world.specs.Way.{Origin, WayView, longest_history, shape_of}
 use Rattle.volume_world.specs.Asking.{IsUnitOn}
 use Rattle.volume_world.specs.Replying.{AreHomes, AreMoves}
 use Rattle.volume_world.specs.Call.{Next, Call}
@@ -69,14 +69,26 @@ pub record ComesBy (call : TaskCall) (old new : WayView) (from : TaskNext) : Typ
   pub to : TaskNext
   pub proceeds : Proceeds call old new from to
 
+-- the call is over since the history is full
+abbrev pub is_cut : TaskNext → Bool
+is_cut (Next.Over (Err faults.HistoryFull)) = true
+is_cut next = false
+
+-- the call has come somewhere, and unless it was over so, the history takes no more entries there
+pub record IsCutOff (call : TaskCall) (old new : WayView) (from : TaskNext) : Type 0 where
+  pub to : TaskNext
+  pub proceeds : Proceeds call old new from to
+  pub full : is_cut to ≡ false → longest_history ≤ length new.entries
+
 -- a part of a call, from this point on: it goes on as its answer says, or breaks off
 abbrev pub GoesOn : {T : Type 0} → TaskCall → WayView → WayView → TaskNext → Result T Halt → (T → TaskNext) → Type 0
-GoesOn call old new from (Err (halts.BrokenOff fault)) then = ComesBy call old new from
+GoesOn call old new from (Err (halts.BrokenOff step_faults.HistoryFull)) then = IsCutOff call old new from
+GoesOn call old new from (Err (halts.BrokenOff step_faults.Memory)) then = ComesBy call old new from
 GoesOn call old new from result then = Proceeds call old new from (told result then)
 
 -- where memory suffices, an answer makes this of the call
 abbrev pub Makes : {T : Type 0} → Result T Halt → (T → TaskNext) → TaskNext → Type 0
-Makes (Err (halts.BrokenOff fault)) then to = Unit {0}
+Makes (Err (halts.BrokenOff step_faults.Memory)) then to = Unit {0}
 Makes result then to = told result then ≡ to
 
 -- ---- what a task may be

@@ -7,7 +7,8 @@
 //! to the end. `merging` says what destinations lack by listings in order (`ordered`), `rebuilding` gets a lacking shard
 //! from the old unit or those of others, and `copies` does one errand behind the other. Where files tell, every shard
 //! that is written is the one that belongs to its unit, of the payload with which its blob was begun (`specs/Rows`). What
-//! else the parts need and say stands in `specs/TaskParts`, `specs/GatherParts` and `specs/Merging`.
+//! else the parts need and say stands in `specs/TaskParts`, `specs/GatherParts` and `specs/Merging`. `specs/StandIn` is a
+//! volume for the tests.
 #![tactic(auto)]
 
 mod advancing;
@@ -27,6 +28,8 @@ mod retargeting;
 mod stage;
 mod starting;
 mod swapping;
+#[cfg(test)]
+mod tests;
 mod usable;
 mod work;
 

@@ -1,5 +1,4 @@
 use Rattle.std.proofs.Common.{◌≡◌, List, None, Ok, Err, sym, ◌∙◌, ap, subst, rules}
-use Rattle.volume_world.specs.declared.fault.StepFault.TheVariants as step_faults
 use Rattle.volume_world.specs.Way.{Origin}
 use Rattle.volume_world.specs.Call.{Next}
 use Rattle.volume_world.specs.Progress.{Proceeds}
@@ -26,7 +25,7 @@ returns-in_err-left-clause-goes g c = λ mode.
     let was = work_of c.args.work.now in
     let w = work_of c.list_all.new.work in
     let heard = c.in_ok-heard.heard in
-    breaks_off (task_call mode c.args.task.now) _ _ (creating was was.journeys) (copying w (next_errand w None (errands w heard.dests.items heard.units.items))) step_faults.Memory c.from_residual-in_err-left.result
+    breaks_off (task_call mode c.args.task.now) _ _ (creating was was.journeys) (copying w (next_errand w None (errands w heard.dests.items heard.units.items))) c.from_residual-in_err-left.result
     (λ units. Next.Over (Ok (stages.Done units))) (search rules) (c.in_ok-heard.ensures.goes mode c.args.task.now)
 
 pub run_all-requires-clause-coder : goal.run_all-requires-clause-coder

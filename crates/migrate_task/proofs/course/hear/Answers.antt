@@ -1,6 +1,5 @@
 use Rattle.std.proofs.Common.{◌≡◌, [], List, None, Ok, Err, Vec, Global, refl, sym, ◌∙◌, ap, subst, rules}
 use Rattle.unit_id.specs.declared.homes.Home.{Home}
-use Rattle.volume_world.specs.declared.fault.StepFault.TheVariants as step_faults
 use Rattle.volume_world.specs.Way.{Origin}
 use Rattle.volume_world.specs.Progress.{Proceeds}
 use Rattle.volume_world.proofs.Comings.{proceeds_on}
@@ -39,7 +38,7 @@ returns-in_err-homes-clause-goes g c = λ mode task.
     let first : Proceeds (task_call mode task) (g.P.Port.seen c.args.port.now) (g.P.Port.seen c.list_dests.new.port) (listing_dests w [] w.journeys) (listing_dests w dests []) =
     subst (λ (js : List Journey). Proceeds (task_call mode task) (g.P.Port.seen c.args.port.now) (g.P.Port.seen c.list_dests.new.port) (listing_dests w [] js) (listing_dests w dests [])) c.as_slice.ensures.value
     (c.in_ok-dests.ensures.goes mode task w refl) in
-    breaks_off (task_call mode task) _ _ (listing_dests w [] w.journeys) (listing_dests w dests []) step_faults.Memory c.from_residual-in_err-homes.result
+    breaks_off (task_call mode task) _ _ (listing_dests w [] w.journeys) (listing_dests w dests []) c.from_residual-in_err-homes.result
     (λ heard. copying w (next_errand w None (errands w heard.dests.items heard.units.items))) (search rules) first
 
 pub returns-in_err-units-clause-goes : goal.returns-in_err-units-clause-goes

@@ -1,8 +1,7 @@
 use Rattle.std.proofs.Common.{Ok, Err}
-use Rattle.volume_world.specs.Call.{Next}
 use Rattle.volume_world.proofs.Comings.{step_proceeds}
-use Rattle.migrate_task.specs.AdvanceCall.{task_call}
-use Rattle.migrate_task.proofs.TaskLemmas.{same_origin}
+use Rattle.migrate_task.specs.AdvanceCall.{task_call, task_after}
+use Rattle.migrate_task.proofs.TaskLemmas.{same_origin, stops}
 use Rattle.migrate_task.proofs.halt.step.Goals as goal
 
 pub returns-in-Ok-clause-steps : goal.returns-in-Ok-clause-steps
@@ -18,7 +17,7 @@ pub returns-in-Ok-clause-moves : goal.returns-in-Ok-clause-moves
 returns-in-Ok-clause-moves g c = c.in-Ok.ensures.moves
 
 pub returns-in-Err-clause-steps : goal.returns-in-Err-clause-steps
-returns-in-Err-clause-steps g c = λ mode task stage e. record { to = Next.Go stage; proceeds = step_proceeds (task_call mode task) _ _ stage c.args.event (Err c.in-Err.fault) e c.in-Err.ensures }
+returns-in-Err-clause-steps g c = λ mode task stage e. stops (task_call mode task) _ _ stage c.args.event c.in-Err.fault (task_after mode task stage) e c.in-Err.ensures
 
 pub returns-in-Err-clause-origin : goal.returns-in-Err-clause-origin
 returns-in-Err-clause-origin g c = same_origin _ _ c.args.event (Err c.in-Err.fault) c.in-Err.ensures

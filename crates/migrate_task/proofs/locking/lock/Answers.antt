@@ -1,6 +1,5 @@
 use Rattle.std.proofs.Common.{◌≡◌, sym, ◌∙◌, ap, subst, rules}
 use Rattle.code_mode.specs.declared.mode.Mode.{Mode}
-use Rattle.volume_world.specs.declared.fault.StepFault.TheVariants as step_faults
 use Rattle.volume_world.specs.Way.{Origin}
 use Rattle.volume_world.specs.Call.{Next}
 use Rattle.volume_world.specs.Progress.{Proceeds}
@@ -24,7 +23,7 @@ returns-in_err-grant-clause-goes g c =
 pub returns-in_err-work-clause-goes : goal.returns-in_err-work-clause-goes
 returns-in_err-work-clause-goes g c =
     let mode = (g.P.Port.seen c.args.port.now).origin.mode in
-    breaks_off (task_call mode c.args.task.now) _ _ (Next.Go (TaskStage.Locking c.args.homes.now)) (granted mode c.args.task.now c.args.homes.now c.in_ok-grant.grant.lock c.in_ok-grant.grant.moves) step_faults.Memory
+    breaks_off (task_call mode c.args.task.now) _ _ (Next.Go (TaskStage.Locking c.args.homes.now)) (granted mode c.args.task.now c.args.homes.now c.in_ok-grant.grant.lock c.in_ok-grant.grant.moves)
     c.from_residual-in_err-work.result (λ work. creating (work_of work) work.journeys.items) (search rules) (c.in_ok-grant.ensures.goes mode c.args.homes.now)
 
 pub returns-clause-goes : goal.returns-clause-goes

@@ -3,7 +3,6 @@ use Rattle.code_mode.specs.declared.mode.Mode.{Mode}
 use Rattle.code_mode.specs.Mode.{data_count, total_count}
 use Rattle.rs_code.specs.Shape.{Shape}
 use Rattle.rs_code.specs.ShardValue.{rebuilt}
-use Rattle.volume_world.specs.declared.fault.StepFault.TheVariants as step_faults
 use Rattle.volume_world.specs.Way.{Origin, shape_of}
 use Rattle.volume_world.specs.Progress.{Proceeds}
 use Rattle.migrate_task.specs.declared.gathering.Gathered.{Gathered}
@@ -21,7 +20,7 @@ returns-in_err-others-clause-goes g c = λ mode task left.
     let w = work_of c.args.work.now in
     let e = c.args.errand.now in
     let from = copying w (reading c.args.known e left (none_gathered c.args.work.now.mode c.args.unheard) (others_than e.journey.index c.args.work.now.homes.items)) in
-    breaks_off (task_call mode task) _ _ from from step_faults.Memory c.from_residual.result (writing w e left) (search rules) (proceeds_nowhere (task_call mode task) _ from)
+    breaks_off (task_call mode task) _ _ from from c.from_residual.result (writing w e left) (search rules) (proceeds_nowhere (task_call mode task) _ from)
 
 pub read_others-requires-clause-units : goal.read_others-requires-clause-units
 read_others-requires-clause-units g c =
@@ -86,7 +85,7 @@ returns-in_err-bytes-clause-goes g c = λ mode task left.
     let from = copying w (reading c.args.known e left (none_gathered c.args.work.now.mode c.args.unheard) (others_than e.journey.index c.args.work.now.homes.items)) in
     let same : copying w (reading c.args.known e left c.nothing-gathered.result c.as_slice-2.result.now) ≡ from = λ i. copying w (reading c.args.known e left (c.nothing-gathered.ensures i) (is i)) in
     let to = rebuilding w e left c.read_others.new.gathered c.in_ok-size.size in
-    breaks_off (task_call mode task) _ _ from to step_faults.Memory c.from_residual-in_err-bytes.result (writing w e left) (search rules)
+    breaks_off (task_call mode task) _ _ from to c.from_residual-in_err-bytes.result (writing w e left) (search rules)
     (subst (λ (next : TaskNext). Proceeds (task_call mode task) (g.P.Port.seen c.args.port.now) (g.P.Port.seen c.read_others.new.port) next to) same (c.in_ok-size.ensures.goes mode task left))
 
 pub returns-clause-goes : goal.returns-clause-goes

@@ -1,5 +1,4 @@
 use Rattle.std.proofs.Common.{◌∷◌, sym, subst, rules}
-use Rattle.volume_world.specs.declared.fault.StepFault.TheVariants as step_faults
 use Rattle.volume_world.specs.Progress.{Proceeds}
 use Rattle.migrate_task.specs.Work.{Work}
 use Rattle.migrate_task.specs.AdvanceCall.{task_call, retargeting}
@@ -22,7 +21,7 @@ pub returns-in_err-move_again-clause-goes : goal.returns-in_err-move_again-claus
 returns-in_err-move_again-clause-goes g c = λ mode left.
     let task = c.args.task.now in
     let was = work_of c.args.work.now in
-    breaks_off (task_call mode task) _ _ (retargeting task.targets was (c.args.item.now ∷ left)) (granted_again task was left c.in_ok-moves.moves) step_faults.Memory c.from_residual-in_err-move_again.result
+    breaks_off (task_call mode task) _ _ (retargeting task.targets was (c.args.item.now ∷ left)) (granted_again task was left c.in_ok-moves.moves) c.from_residual-in_err-move_again.result
     (λ _. retargeting task.targets (work_of c.move_again.new.work) left) (search rules) (c.in_ok-moves.ensures.goes mode was left)
 
 pub returns-in_err-move_again-clause-work : goal.returns-in_err-move_again-clause-work

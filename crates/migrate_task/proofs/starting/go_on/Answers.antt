@@ -1,7 +1,6 @@
 use Rattle.std.proofs.Common.{◌≡◌, [], filter, Err, sym, ◌∙◌, ap, subst, rules}
 use Rattle.unit_id.specs.declared.moves.Move.{Move}
 use Rattle.code_mode.specs.declared.mode.Mode.{Mode}
-use Rattle.volume_world.specs.declared.fault.StepFault.TheVariants as step_faults
 use Rattle.volume_world.specs.Replying.{AreMovesEach}
 use Rattle.volume_world.specs.Progress.{Proceeds}
 use Rattle.migrate_task.specs.AdvanceCall.{TaskNext, task_call, creating, retargeting}
@@ -19,14 +18,14 @@ returns-in_err-work-clause-goes g c =
     let a = g.P.Port.seen c.args.port.now in
     let call = task_call a.origin.mode c.args.task.now in
     let from = own_lock a.origin.mode c.args.task.now c.args.homes.now c.args.held.now in
-    breaks_off call a a from from step_faults.Memory c.from_residual.result (λ work. creating (work_of work) work.journeys.items) (search rules) (proceeds_nowhere call a from)
+    breaks_off call a a from from c.from_residual.result (λ work. creating (work_of work) work.journeys.items) (search rules) (proceeds_nowhere call a from)
 
 pub returns-in_err-broken-clause-goes : goal.returns-in_err-broken-clause-goes
 returns-in_err-broken-clause-goes g c =
     let a = g.P.Port.seen c.args.port.now in
     let call = task_call a.origin.mode c.args.task.now in
     let from = own_lock a.origin.mode c.args.task.now c.args.homes.now c.args.held.now in
-    breaks_off call a a from from step_faults.Memory c.from_residual-in_err-broken.result (λ work. creating (work_of work) work.journeys.items) (search rules) (proceeds_nowhere call a from)
+    breaks_off call a a from from c.from_residual-in_err-broken.result (λ work. creating (work_of work) work.journeys.items) (search rules) (proceeds_nowhere call a from)
 
 pub retarget_all-requires-clause-work : goal.retarget_all-requires-clause-work
 retarget_all-requires-clause-work g c =

@@ -1,6 +1,5 @@
 use Rattle.std.proofs.Common.{◌≡◌, sym, ◌∙◌, ap, subst, rules}
 use Rattle.code_mode.specs.declared.mode.Mode.{Mode}
-use Rattle.volume_world.specs.declared.fault.StepFault.TheVariants as step_faults
 use Rattle.volume_world.specs.Call.{Next}
 use Rattle.volume_world.specs.Progress.{Proceeds}
 use Rattle.migrate_task.specs.Work.{journeys_from}
@@ -19,7 +18,7 @@ returns-in_err-work-clause-goes g c =
     let a = g.P.Port.seen c.args.port.now in
     let call = task_call a.origin.mode c.args.task.now in
     let from = own_lock a.origin.mode c.args.task.now c.args.homes.now c.args.held.now in
-    breaks_off call a a from from step_faults.Memory c.from_residual.result starting (search rules) (proceeds_nowhere call a from)
+    breaks_off call a a from from c.from_residual.result starting (search rules) (proceeds_nowhere call a from)
 
 pub returns-then-held-clause-goes : goal.returns-then-held-clause-goes
 returns-then-held-clause-goes g c =
