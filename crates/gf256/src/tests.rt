@@ -55,25 +55,39 @@ fn inverses_and_powers_are_the_field_s(rt: HostRuntime) {
     }
 }
 
+/// Whether a source is scaled by a factor and added to a row of one byte from a place on, and nothing else changes.
+fn is_scaled_in(factor: u8, from: usize, length: usize, src: &[u8; 200]) -> bool
+    requires place { from ≤ 2 }
+    requires most { length ≤ 200 }
+{
+    let mut out = [85u8; 203];
+    scale_add(&mut out[from..from + length], factor, &src[..length]);
+    for (place, byte) in out.iter().enumerate() {
+        let want = if from <= place && place < from + length {
+            85 ^ by_shifts(factor, src[place - from])
+        } else {
+            85
+        };
+        if u16::from(*byte) != want {
+            return false;
+        }
+    }
+    true
+}
+
 #[test]
 fn rows_of_every_length_are_scaled_and_added(rt: HostRuntime) {
-    let mut src = [0u8; 67];
+    let mut src = [0u8; 200];
     for (place, byte) in src.iter_mut().enumerate() {
         *byte = (place * 37 % 256) as u8;
     }
-    for length in 0..=65usize {
-        for (factor, from) in [(0u8, 0usize), (1, 1), (2, 0), (143, 2)] {
-            let mut out = [85u8; 67];
-            scale_add(&mut out[from..from + length], factor, &src[..length]);
-            for (place, byte) in out.iter().enumerate() {
-                let inside = from <= place && place < from + length;
-                let want = if inside {
-                    85 ^ by_shifts(factor, src[place - from])
-                } else {
-                    85
-                };
-                assert_eq!(rt; u16::from(*byte), want, "{factor}: {place} of {length}");
-            }
+    for length in 0..=200usize {
+        for factor in 0..=255u8 {
+            let from = (length + usize::from(factor)) % 3;
+            assert!(rt;
+                is_scaled_in(factor, from, length, &src),
+                "{factor}: {length} from {from}"
+            );
         }
     }
 }
