@@ -2,7 +2,7 @@
 use Rattle.std.proofs.Common.{◌≡◌, ◌∙◌, sym, ap, refl, subst, ℕ, Bool, true, false, List, [], ◌∷◌, ◌++◌, Option, None, Some, IsSomeAnd}
 use Rattle.std.specs.Prelude.{option_map}
 use Rattle.unit_id.specs.Place.{Place}
-use Rattle.disk_base.specs.Disk.{LeavesExactly, OnlyReads}
+use Rattle.disk_base.specs.Disk.{IsWithin, LeavesExactly, OnlyReads}
 use Rattle.shard_record.specs.declared.record.ShardRecord.{ShardRecord}
 use Rattle.shard_record.specs.declared.record.ShardRecord.TheVariants.{Shard, Mark, Free, Fence, Release}
 use Rattle.chunk_store.specs.Kept.{KeptRows, row_of, kept_after, kept_after_shard, kept_after_mark, kept_after_free, kept_after_fence}
@@ -137,9 +137,9 @@ module _ (old new : ChunkView) (doubt : Option UnitRecord) (flag after : Bool) (
     }
 
   -- one record in doubt
-  pub doubts : (item : ShardRecord) → new.is_shut ≡ true → units.is_released place ≡ false → IsNew (without_bytes item) units place → IsSomeAnd new.file.content (IsWithOrWithout new.unit written.items item) → after ≡ flag
+  pub doubts : (item : ShardRecord) → new.is_shut ≡ true → units.is_released place ≡ false → IsNew (without_bytes item) units place → IsSomeAnd new.file.content (IsWithOrWithout new.unit written.items item) → IsWithin new.file.images (IsWithOrWithout new.unit written.items item) → after ≡ flag
       → Holds new (Some (without_bytes item)) after (record written { doubt = Some item }) (record units { is_shut = with_at place true units.is_shut; doubt = with_at place (Some (without_bytes item)) units.doubt }) place
-  doubts item shut free is_new says same = record {
+  doubts item shut free is_new says crash same = record {
     made = holds.made;
     rows_are = holds.rows_are;
     shut = λ _. there_now place true units.is_shut;
@@ -147,5 +147,5 @@ module _ (old new : ChunkView) (doubt : Option UnitRecord) (flag after : Bool) (
     doubted = there_now place (Some (without_bytes item)) units.doubt;
     doubt_is = refl;
     new = (new_still (without_bytes item) units place (with_at place true units.is_shut) (with_at place (Some (without_bytes item)) units.doubt) is_new, free);
-    file = (λ open_again. absurd (never_both new.is_shut open_again shut), λ _. says);
+    file = (λ open_again. absurd (never_both new.is_shut open_again shut), λ _. (says, crash));
   }

@@ -16,4 +16,7 @@ pub mod Serving
 pub mod NewFiles
 pub mod Creating
 pub mod Handling
+pub mod Restarting
+pub mod Starts
 pub mod HandingBack
+pub mod Lasting

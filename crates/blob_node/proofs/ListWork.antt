@@ -30,7 +30,7 @@ index_of n [] h = absurd h
 index_of n (y ∷ ys) (inl e) = (zero, omega arith, sym e)
 index_of n (y ∷ ys) (inr r) = let w = index_of n ys r in (suc w.0, omega (arith, w.1), w.2)
 
-ascends : (xs : List ℕ) → AllPairs (λ x y. x < y) xs → AreAscending xs
+pub ascends : (xs : List ℕ) → AllPairs (λ x y. x < y) xs → AreAscending xs
 ascends [] h = tt
 ascends (x ∷ xs) h = (
   λ n in_. let w = index_of n xs in_ in subst (λ m. x < m) w.2 (h zero (suc w.0) 0 (omega arith) (omega (arith, w.1))),
@@ -40,7 +40,7 @@ ascends (x ∷ xs) h = (
 turned : (a b : ℕ) → (a == b) ≡ (b == a)
 turned a b = grind (arith, nat_tests)
 
-same_test : (bid : ℕ) (xs : List ℕ) → is_in bid xs ≡ list_any (λ listed. listed == bid) xs
+pub same_test : (bid : ℕ) (xs : List ℕ) → is_in bid xs ≡ list_any (λ listed. listed == bid) xs
 same_test bid [] = refl
 same_test bid (x ∷ xs) = λ i. turned bid x i || same_test bid xs i
 

@@ -31,7 +31,7 @@ module _ {F : Type 0} (seen : F → FileView) (unit : Name) (old new : ShelfView
 
   pub lent_made : (file : F) → ShelfCall {T = F} old new (Ok file) → IsMade seen (packed unit) old new file → Lends seen unit old new (Ok file)
   lent_made file call made = (
-    record { out = made.lent.out; others = made.lent.others; told = call.told; counts = call.others (no_failure file) },
+    record { out = made.lent.out; others = made.lent.others; told = call.told; counts = call.others (no_failure file); quiet = call.quiet; quiet_file = made.lent.quiet },
     made.lent.no_fault,
     λ told _. some_and (seen file).content [] (λ bytes. IsChunkOf bytes unit []) (made.empty told) (empty_chunk unit),
   )
@@ -49,6 +49,7 @@ module _ {F : Type 0} (seen : F → FileView) (unit : Name) (old new : ShelfView
       others = may.others;
       told = call.told;
       counts = call.never_falls;
+      quiet = λ quiet. call.quiet ∙ quiet;
       empty = λ told _. none_or_empty (new.place (packed unit)) (shelf.told_is_known (call.told ∙ told) (packed unit) (may.out ∙ not_out)) (may.empty told);
     },
     call.failed refl,
@@ -96,7 +97,7 @@ module _ {F : Type 0} (seen : F → FileView) (unit : Name) (old mid new : Shelf
       → StartsOver was now (Ok tt) → StartsNew seen unit old mid (Ok now)
   started_new was now lends own call open_ sound starts = (
     own,
-    record { out = lends.0.out; others = lends.0.others; told = lends.0.told; counts = lends.0.counts },
+    record { out = lends.0.out; others = lends.0.others; told = lends.0.told; counts = lends.0.counts; quiet = lends.0.quiet; quiet_file = λ quiet. call.lasts.quiet ∙ lends.0.quiet_file quiet },
     call.counts ∙ lends.1,
     λ told none. record { open_ = open_; sound = sound; empty = (starts [] (lends.2 told none)).found },
   )
@@ -113,6 +114,7 @@ module _ {F : Type 0} (seen : F → FileView) (unit : Name) (old mid new : Shelf
       others = others_then (packed unit) lends.0.others back.others;
       told = back.told ∙ lends.0.told;
       counts = subst (λ n. n ≤ new.faults) lends.0.counts back.never_falls;
+      quiet = λ quiet. back.quiet (lends.0.quiet ∙ quiet) (call.lasts.quiet ∙ lends.0.quiet_file quiet);
       empty = λ told none. subst (HasNoRecords seen unit) (sym back.kept) (subst (λ (n : Name). IsSomeAnd (seen now.log.file).content (λ bytes. IsChunkOf bytes n [])) own (starts [] (lends.2 told none)).stands);
     },
     λ is.

@@ -5,7 +5,7 @@ use Rattle.std.proofs.lemmas.Bool.{eqb-true}
 use Rattle.unit_id.specs.Place.{Place}
 use Rattle.unit_id.specs.declared.request.Request.TheVariants as requests
 use Rattle.unit_id.specs.declared.answer.Answer as answered
-use Rattle.disk_base.specs.Disk.{FileView}
+use Rattle.disk_base.specs.Disk.{FileView, IsFile}
 use Rattle.disk_base.specs.declared.fault.NoMemory.{NoMemory}
 use Rattle.shard_record.specs.declared.record.ShardRecord.{ShardRecord}
 use Rattle.shard_record.specs.declared.record.ShardRecord.TheVariants.{Shard, Mark, Free, Fence, Release}
@@ -86,7 +86,7 @@ module _ {E : Type 0} (seen : E → FileView) (old new : ChunkOver E) (open_ : o
 
 -- ---- what each request comes to
 
-module _ {E : Type 0} (seen : E → FileView) (old new : UnitOver E) (open_ : old.chunk.is_shut ≡ false) (sound : IsSound (shown seen old.chunk)) (free : is_released old ≡ false) (same_was : new.was_released ≡ old.was_released)
+module _ {E : Type 0} (seen : E → FileView) (old new : UnitOver E) (open_ : old.chunk.is_shut ≡ false) (sound : IsSound (shown seen old.chunk)) (free : is_released old ≡ false) (same_was : new.was_released ≡ old.was_released) (is_file : IsFile (seen new.chunk.log.file))
     (result : Result answered.Answer NoMemory) (written : Written) (units : Units) (place : Place) (held : Held seen old written units place) (disk : ℕ) where
   fence_there : units.fence place ≡ old.chunk.kept.fence
   fence_there = fence_is seen old new written units place held open_ sound
@@ -96,7 +96,7 @@ module _ {E : Type 0} (seen : E → FileView) (old new : UnitOver E) (open_ : ol
 
   module _ (bid size : ℕ) (bytes : List ℕ) where
     abbrev FitsPut : Plan Put → Type 0
-    FitsPut = Fitting seen old new written units place held open_ sound free (Shard bid old.chunk.unit size bytes) (doubts.Shard bid) refl same_was (requests.Put old.chunk.unit disk bid size bytes) refl refl (λ a. tt) of_put
+    FitsPut = Fitting seen old new written units place held open_ sound free (Shard bid old.chunk.unit size bytes) (doubts.Shard bid) refl same_was is_file (requests.Put old.chunk.unit disk bid size bytes) refl refl (λ a. tt) of_put
 
     put_fits : (fence : Option ℕ) (k : Option KeptRow) → units.fence place ≡ fence → units.row place bid ≡ state_of_kind (kind_of k) → FitsPut (unless_fenced fence (put_at k (Shard bid old.chunk.unit size bytes)))
     put_fits (Some lock) k f r = f
@@ -107,12 +107,12 @@ module _ {E : Type 0} (seen : E → FileView) (old new : UnitOver E) (open_ : ol
 
     pub put_works : (outcome : Result Put ChunkFault) → Does seen (put_plan old.chunk bid size bytes) old.chunk new.chunk outcome → new.doubt ≡ doubt_by (doubts.Shard bid) outcome → Gives of_put outcome result → WorksBy seen (requests.Put old.chunk.unit disk bid size bytes) written units place new result
     put_works outcome does doubted gives =
-        worked seen old new written units place held open_ sound free (Shard bid old.chunk.unit size bytes) (doubts.Shard bid) refl same_was (requests.Put old.chunk.unit disk bid size bytes) refl refl (λ a. tt) of_put (put_plan old.chunk bid size bytes) outcome result
+        worked seen old new written units place held open_ sound free (Shard bid old.chunk.unit size bytes) (doubts.Shard bid) refl same_was is_file (requests.Put old.chunk.unit disk bid size bytes) refl refl (λ a. tt) of_put (put_plan old.chunk bid size bytes) outcome result
         (subst (λ (b : Bool). FitsPut (unless_shut b (unless_fenced old.chunk.kept.fence (put_at (row_of old.chunk.kept bid) (Shard bid old.chunk.unit size bytes))))) (sym open_)
         (put_fits old.chunk.kept.fence (row_of old.chunk.kept bid) fence_there (row_there bid))) does doubted gives
 
     abbrev FitsCopy : Plan Put → Type 0
-    FitsCopy = Fitting seen old new written units place held open_ sound free (Shard bid old.chunk.unit size bytes) (doubts.Shard bid) refl same_was (requests.Copy old.chunk.unit disk bid size bytes) refl refl (λ a. tt) of_put
+    FitsCopy = Fitting seen old new written units place held open_ sound free (Shard bid old.chunk.unit size bytes) (doubts.Shard bid) refl same_was is_file (requests.Copy old.chunk.unit disk bid size bytes) refl refl (λ a. tt) of_put
 
     copy_fits : (fence : Option ℕ) (k : Option KeptRow) → units.fence place ≡ fence → units.row place bid ≡ state_of_kind (kind_of k) → FitsCopy (unless_fenced fence (put_at k (Shard bid old.chunk.unit size bytes)))
     copy_fits (Some lock) k f r = f
@@ -123,13 +123,13 @@ module _ {E : Type 0} (seen : E → FileView) (old new : UnitOver E) (open_ : ol
 
     pub copy_works : (outcome : Result Put ChunkFault) → Does seen (put_plan old.chunk bid size bytes) old.chunk new.chunk outcome → new.doubt ≡ doubt_by (doubts.Shard bid) outcome → Gives of_put outcome result → WorksBy seen (requests.Copy old.chunk.unit disk bid size bytes) written units place new result
     copy_works outcome does doubted gives =
-        worked seen old new written units place held open_ sound free (Shard bid old.chunk.unit size bytes) (doubts.Shard bid) refl same_was (requests.Copy old.chunk.unit disk bid size bytes) refl refl (λ a. tt) of_put (put_plan old.chunk bid size bytes) outcome result
+        worked seen old new written units place held open_ sound free (Shard bid old.chunk.unit size bytes) (doubts.Shard bid) refl same_was is_file (requests.Copy old.chunk.unit disk bid size bytes) refl refl (λ a. tt) of_put (put_plan old.chunk bid size bytes) outcome result
         (subst (λ (b : Bool). FitsCopy (unless_shut b (unless_fenced old.chunk.kept.fence (put_at (row_of old.chunk.kept bid) (Shard bid old.chunk.unit size bytes))))) (sym open_)
         (copy_fits old.chunk.kept.fence (row_of old.chunk.kept bid) fence_there (row_there bid))) does doubted gives
 
   module _ (bid : ℕ) where
     abbrev FitsMark : Plan Bool → Type 0
-    FitsMark = Fitting seen old new written units place held open_ sound free (Mark bid old.chunk.unit) (doubts.Mark bid) refl same_was (requests.Mark old.chunk.unit disk bid) refl refl (λ a. tt) of_change
+    FitsMark = Fitting seen old new written units place held open_ sound free (Mark bid old.chunk.unit) (doubts.Mark bid) refl same_was is_file (requests.Mark old.chunk.unit disk bid) refl refl (λ a. tt) of_change
 
     mark_fits : (fence : Option ℕ) (k : Option KeptRow) → units.fence place ≡ fence → units.row place bid ≡ state_of_kind (kind_of k) → FitsMark (unless_fenced fence (mark_at k (Mark bid old.chunk.unit)))
     mark_fits (Some lock) k f r = f
@@ -140,12 +140,12 @@ module _ {E : Type 0} (seen : E → FileView) (old new : UnitOver E) (open_ : ol
 
     pub mark_works : (outcome : Result Bool ChunkFault) → Does seen (mark_plan old.chunk bid) old.chunk new.chunk outcome → new.doubt ≡ doubt_by (doubts.Mark bid) outcome → Gives of_change outcome result → WorksBy seen (requests.Mark old.chunk.unit disk bid) written units place new result
     mark_works outcome does doubted gives =
-        worked seen old new written units place held open_ sound free (Mark bid old.chunk.unit) (doubts.Mark bid) refl same_was (requests.Mark old.chunk.unit disk bid) refl refl (λ a. tt) of_change (mark_plan old.chunk bid) outcome result
+        worked seen old new written units place held open_ sound free (Mark bid old.chunk.unit) (doubts.Mark bid) refl same_was is_file (requests.Mark old.chunk.unit disk bid) refl refl (λ a. tt) of_change (mark_plan old.chunk bid) outcome result
         (subst (λ (b : Bool). FitsMark (unless_shut b (unless_fenced old.chunk.kept.fence (mark_at (row_of old.chunk.kept bid) (Mark bid old.chunk.unit))))) (sym open_)
         (mark_fits old.chunk.kept.fence (row_of old.chunk.kept bid) fence_there (row_there bid))) does doubted gives
 
     abbrev FitsFree : Plan Bool → Type 0
-    FitsFree = Fitting seen old new written units place held open_ sound free (Free bid old.chunk.unit) (doubts.Free bid) refl same_was (requests.Free old.chunk.unit disk bid) refl refl (λ a. tt) of_change
+    FitsFree = Fitting seen old new written units place held open_ sound free (Free bid old.chunk.unit) (doubts.Free bid) refl same_was is_file (requests.Free old.chunk.unit disk bid) refl refl (λ a. tt) of_change
 
     free_fits : (fence : Option ℕ) (k : Option KeptRow) → units.fence place ≡ fence → units.row place bid ≡ state_of_kind (kind_of k) → FitsFree (unless_fenced fence (free_at k (Free bid old.chunk.unit)))
     free_fits (Some lock) k f r = f
@@ -156,13 +156,13 @@ module _ {E : Type 0} (seen : E → FileView) (old new : UnitOver E) (open_ : ol
 
     pub free_works : (outcome : Result Bool ChunkFault) → Does seen (free_plan old.chunk bid) old.chunk new.chunk outcome → new.doubt ≡ doubt_by (doubts.Free bid) outcome → Gives of_change outcome result → WorksBy seen (requests.Free old.chunk.unit disk bid) written units place new result
     free_works outcome does doubted gives =
-        worked seen old new written units place held open_ sound free (Free bid old.chunk.unit) (doubts.Free bid) refl same_was (requests.Free old.chunk.unit disk bid) refl refl (λ a. tt) of_change (free_plan old.chunk bid) outcome result
+        worked seen old new written units place held open_ sound free (Free bid old.chunk.unit) (doubts.Free bid) refl same_was is_file (requests.Free old.chunk.unit disk bid) refl refl (λ a. tt) of_change (free_plan old.chunk bid) outcome result
         (subst (λ (b : Bool). FitsFree (unless_shut b (unless_fenced old.chunk.kept.fence (free_at (row_of old.chunk.kept bid) (Free bid old.chunk.unit))))) (sym open_)
         (free_fits old.chunk.kept.fence (row_of old.chunk.kept bid) fence_there (row_there bid))) does doubted gives
 
   module _ (lock : ℕ) where
     abbrev FitsFence : Plan (Unit {0}) → Type 0
-    FitsFence = Fitting seen old new written units place held open_ sound free (Fence lock old.chunk.unit) (doubts.Fence lock) refl same_was (requests.Fence old.chunk.unit disk lock) refl refl (λ a. tt) of_unit
+    FitsFence = Fitting seen old new written units place held open_ sound free (Fence lock old.chunk.unit) (doubts.Fence lock) refl same_was is_file (requests.Fence old.chunk.unit disk lock) refl refl (λ a. tt) of_unit
 
     first_fits : (first : ℕ) (test : Bool) → first == lock ≡ test → units.fence place ≡ Some first → FitsFence (if test then answer tt else refuse (Fenced first))
     first_fits first true e f = f ∙ ap (λ n. Some n) (eqb-true first lock e)
@@ -174,13 +174,13 @@ module _ {E : Type 0} (seen : E → FileView) (old new : UnitOver E) (open_ : ol
 
     pub fence_works : (outcome : Result (Unit {0}) ChunkFault) → Does seen (fence_plan old.chunk lock) old.chunk new.chunk outcome → new.doubt ≡ doubt_by (doubts.Fence lock) outcome → Gives of_unit outcome result → WorksBy seen (requests.Fence old.chunk.unit disk lock) written units place new result
     fence_works outcome does doubted gives =
-        worked seen old new written units place held open_ sound free (Fence lock old.chunk.unit) (doubts.Fence lock) refl same_was (requests.Fence old.chunk.unit disk lock) refl refl (λ a. tt) of_unit (fence_plan old.chunk lock) outcome result
+        worked seen old new written units place held open_ sound free (Fence lock old.chunk.unit) (doubts.Fence lock) refl same_was is_file (requests.Fence old.chunk.unit disk lock) refl refl (λ a. tt) of_unit (fence_plan old.chunk lock) outcome result
         (subst (λ (b : Bool). FitsFence (unless_shut b (fence_at old.chunk.kept.fence lock (Fence lock old.chunk.unit)))) (sym open_) (fence_fits old.chunk.kept.fence fence_there)) does doubted gives
 
   abbrev FitsRelease : Plan (Unit {0}) → Type 0
-  FitsRelease = Fitting seen old new written units place held open_ sound free (Release old.chunk.unit) doubts.Release refl same_was (requests.Release old.chunk.unit disk) refl refl (λ a. tt) of_unit
+  FitsRelease = Fitting seen old new written units place held open_ sound free (Release old.chunk.unit) doubts.Release refl same_was is_file (requests.Release old.chunk.unit disk) refl refl (λ a. tt) of_unit
 
   pub release_works : (outcome : Result (Unit {0}) ChunkFault) → Does seen (release_plan old.chunk) old.chunk new.chunk outcome → new.doubt ≡ doubt_by doubts.Release outcome → Gives of_unit outcome result → WorksBy seen (requests.Release old.chunk.unit disk) written units place new result
   release_works outcome does doubted gives =
-      worked seen old new written units place held open_ sound free (Release old.chunk.unit) doubts.Release refl same_was (requests.Release old.chunk.unit disk) refl refl (λ a. tt) of_unit (release_plan old.chunk) outcome result
+      worked seen old new written units place held open_ sound free (Release old.chunk.unit) doubts.Release refl same_was is_file (requests.Release old.chunk.unit disk) refl refl (λ a. tt) of_unit (release_plan old.chunk) outcome result
       (subst (λ (b : Bool). FitsRelease (unless_shut b (add (Release old.chunk.unit) tt))) (sym open_) (refl, tt, tt, (λ end. tt), sym held.released ∙ free)) does doubted gives

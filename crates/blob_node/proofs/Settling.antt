@@ -1,9 +1,11 @@
 -- A start of a unit's chunk, which settles a record in doubt.
-use Rattle.std.proofs.Common.{◌≡◌, ◌∙◌, sym, ap, refl, subst, ℕ, Bool, true, false, List, [], ◌∷◌, ◌++◌, Option, None, Some, Ok, Err, IfSome, IsSomeAnd, inl, inr}
+use Rattle.std.proofs.Common.{◌≡◌, ◌⊎◌, ◌∙◌, sym, ap, refl, subst, ℕ, Bool, true, false, List, [], ◌∷◌, ◌++◌, Option, None, Some, Result, Ok, Err, IfSome, IsSomeAnd, inl, inr}
 use Rattle.std.specs.Prelude.{option_map, is_some, not, ◌&&◌, ◌||◌}
 use Rattle.std.specs.FinMap as map
 use Rattle.unit_id.specs.Place.{Place}
-use Rattle.disk_base.specs.Disk.{FileView, LeavesExactly}
+use Rattle.unit_id.specs.UnitName.{Name}
+use Rattle.disk_base.specs.Disk.{FileView, IsFile, IsWithin, LeavesExactly, AtEachMoment}
+use Rattle.disk_base.specs.Moments.{weaker}
 use Rattle.shard_record.specs.Rows.{rows_after}
 use Rattle.shard_record.specs.declared.record.ShardRecord.{ShardRecord}
 use Rattle.chunk_store.specs.Kept.{KeptRows, row_of, kind_of, shut_after}
@@ -88,7 +90,7 @@ module _ (chunk : ChunkView) (doubt : Option UnitRecord) (flag : Bool) (written 
 
   by_shut : (shut : Bool) → chunk.is_shut ≡ shut → SaysIt
   by_shut true e =
-      let at = told_at chunk.file.content (Says chunk.unit written.items written.doubt) (holds.file.1 e) in
+      let at = told_at chunk.file.content (Says chunk.unit written.items written.doubt) (holds.file.1 e).0 in
       by_doubt written.doubt at.value refl at.is at.holds
   by_shut false e =
       let has = holds.file.0 e in
@@ -97,6 +99,46 @@ module _ (chunk : ChunkView) (doubt : Option UnitRecord) (flag : Bool) (written 
 
   pub says_it : SaysIt
   says_it = by_shut chunk.is_shut refl
+
+-- ---- what a crash leaves
+
+-- the records, without the one in doubt or with it
+pub crash_leaves : (chunk : ChunkView) (doubt : Option UnitRecord) (flag : Bool) (written : Written) (units : Units) (place : Place) → Holds chunk doubt flag written units place → IsWithin chunk.file.images (Says chunk.unit written.items written.doubt)
+crash_leaves chunk doubt flag written units place holds = by chunk.is_shut refl where
+  by : (shut : Bool) → chunk.is_shut ≡ shut → IsWithin chunk.file.images (Says chunk.unit written.items written.doubt)
+  by true e = (holds.file.1 e).1
+  by false e = λ c left.
+      let has = holds.file.0 e in
+      let at = told_at chunk.file.content (λ file. IsChunkOf file chunk.unit written.items × LeavesExactly file chunk.file.images) has.0 in
+      subst (λ (o : Option ShardRecord). Says chunk.unit written.items o c) (sym has.1) (subst (λ (file : List ℕ). IsChunkOf file chunk.unit written.items) (sym (at.holds.1 c left)) at.holds.0)
+
+module _ (unit : Name) (written : Written) where
+  abbrev written_items : Bool → Option ShardRecord → List ShardRecord
+  written_items true d = with_item written.items d
+  written_items false d = written.items
+
+  says_of : (found : Bool) (d : Option ShardRecord) (file : List ℕ) → (found ≡ true → is_some d ≡ true) → IsChunkOf file unit (written_items found d) → Says unit written.items d file
+  says_of false None file up is = is
+  says_of false (Some item) file up is = inl is
+  says_of true None file up is = absurd (never_both false refl (up refl))
+  says_of true (Some item) file up is = inr is
+
+  same_items : (found : Bool) → (written_settled found written).items ≡ written_items found written.doubt
+  same_items true = refl
+  same_items false = refl
+
+  says_settled : (found : Bool) → (found ≡ true → is_some written.doubt ≡ true) → (file : List ℕ) → IsChunkOf file unit (written_settled found written).items → Says unit written.items written.doubt file
+  says_settled found up file is = says_of found written.doubt file up (subst (λ (items : List ShardRecord). IsChunkOf file unit items) (same_items found) is)
+
+-- and so at each moment of a start
+pub starts_through : (old new : ChunkView) (doubt : Option UnitRecord) (flag : Bool) (written : Written) (units : Units) (place : Place) (holds : Holds old doubt flag written units place) (says : SaysIt old doubt flag written units place holds)
+    → new.unit ≡ old.unit → (result : Result (Unit {0}) ChunkFault) → StartsWith (written_settled says.found written).items old new result → AtEachMoment old.file new.file (Says old.unit written.items written.doubt)
+starts_through old new doubt flag written units place holds says own result starts =
+    weaker (λ image. old.file.images image ⊎ IsChunkOf image new.unit (written_settled says.found written).items) (Says old.unit written.items written.doubt) old.file new.file starts.any_moment by
+  where
+    by : (c : List ℕ) → old.file.images c ⊎ IsChunkOf c new.unit (written_settled says.found written).items → Says old.unit written.items written.doubt c
+    by c (inl past) = crash_leaves old doubt flag written units place holds c past
+    by c (inr is) = says_settled old.unit written says.found says.there c (subst (λ (u : Name). IsChunkOf c u (written_settled says.found written).items) own is)
 
 or_flag : (w s k u v : Bool) → w ≡ u → s ≡ false → k ≡ v → (u ≡ true → v ≡ true) → w || (not s && k) ≡ v
 or_flag true s k u v e f g up = sym (up (sym e))
@@ -247,7 +289,7 @@ module _ {E : Type 0} (seen : E → FileView) (old new : UnitOver E) (written : 
 
   module _ (fault : ChunkFault) (ends : StartEnds (shown seen old.chunk) (shown seen new.chunk) (Err fault)) (same_doubt : new.doubt ≡ old.doubt)
       (says : SaysIt (shown seen old.chunk) (option_map record_of_doubt old.doubt) (is_released old) written units place held)
-      (starts : StartsWith (written_settled says.found written).items (shown seen old.chunk) (shown seen new.chunk) (Err fault)) where
+      (starts : StartsWith (written_settled says.found written).items (shown seen old.chunk) (shown seen new.chunk) (Err fault)) (is_file : IsFile (seen new.chunk.log.file)) where
     was_open : (f : ChunkFault) (s : Bool) → shut_after f s ≡ false → s ≡ false
     was_open faults.Memory s e = e
     was_open faults.Fault s e = absurd (never_both true e refl)
@@ -260,20 +302,6 @@ module _ {E : Type 0} (seen : E → FileView) (old new : UnitOver E) (written : 
 
     open_then : new.chunk.is_shut ≡ false → old.chunk.is_shut ≡ false
     open_then e = was_open fault old.chunk.is_shut (sym ends.0 ∙ e)
-
-    abbrev written_items : Bool → Option ShardRecord → List ShardRecord
-    written_items true d = with_item written.items d
-    written_items false d = written.items
-
-    says_of : (found : Bool) (d : Option ShardRecord) (file : List ℕ) → (found ≡ true → is_some d ≡ true) → IsChunkOf file new.chunk.unit (written_items found d) → Says new.chunk.unit written.items d file
-    says_of false None file up is = is
-    says_of false (Some item) file up is = inl is
-    says_of true None file up is = absurd (never_both false refl (up refl))
-    says_of true (Some item) file up is = inr is
-
-    same_items : (found : Bool) → (written_settled found written).items ≡ written_items found written.doubt
-    same_items true = refl
-    same_items false = refl
 
     without : (found : Bool) → (found ≡ true → is_some written.doubt ≡ true) → written.doubt ≡ None → (written_settled found written).items ≡ written.items
     without false up none = refl
@@ -298,7 +326,12 @@ module _ {E : Type 0} (seen : E → FileView) (old new : UnitOver E) (written : 
     stays_shut =
         let at = told_at (seen new.chunk.log.file).content (λ file. IsChunkOf file new.chunk.unit (written_settled says.found written).items) starts.stands in
         some_and (seen new.chunk.log.file).content at.value (Says new.chunk.unit written.items written.doubt) at.is
-        (says_of says.found written.doubt at.value says.there (subst (λ (items : List ShardRecord). IsChunkOf at.value new.chunk.unit items) (same_items says.found) at.holds))
+        (says_settled new.chunk.unit written says.found says.there at.value at.holds)
+
+    crash_says : IsWithin (seen new.chunk.log.file).images (Says new.chunk.unit written.items written.doubt)
+    crash_says = λ c left.
+        let through = starts_through (shown seen old.chunk) (shown seen new.chunk) (option_map record_of_doubt old.doubt) (is_released old) written units place held says own (Err fault) starts in
+        subst (λ (u : Name). Says u written.items written.doubt c) (sym own) (through.each c (is_file.present_counts (seen old.chunk.log.file).clock c through.never_falls left))
 
     pub starts_err : StartsBy seen written units place new (Err fault)
     starts_err = (
@@ -312,6 +345,6 @@ module _ {E : Type 0} (seen : E → FileView) (old new : UnitOver E) (written : 
             doubted = held.doubted;
             doubt_is = held.doubt_is;
             new = new_again old.doubt held.new;
-            file = (stays_open, λ _. stays_shut);
+            file = (stays_open, λ _. (stays_shut, crash_says));
           }),
     )

@@ -8,7 +8,7 @@ use Rattle.unit_id.specs.declared.request.Request as sent
 use Rattle.unit_id.specs.declared.answer.Answer as answered
 use Rattle.unit_id.specs.declared.answer.Answer.TheVariants as answers
 use Rattle.unit_id.proofs.Bools.{or_none}
-use Rattle.disk_base.specs.Disk.{FileView}
+use Rattle.disk_base.specs.Disk.{FileView, IsFile}
 use Rattle.disk_base.specs.Moments.{lasts_none}
 use Rattle.disk_base.specs.declared.fault.NoMemory.{NoMemory}
 use Rattle.shard_record.specs.Rows.{Row, Rows, rows_after, row_at}
@@ -121,7 +121,7 @@ module _ {E : Type 0} (seen : E → FileView) (old new : UnitOver E) (written : 
     kept_not : old.chunk.kept.is_released ≡ false
     kept_not = kinds_are.released ∙ sym held.rows_are.released ∙ not_released
 
-    module _ (item : ShardRecord) (doubt : Doubt) (doubt_is : record_of_doubt doubt ≡ without_bytes item) (same_was : new.was_released ≡ old.was_released) where
+    module _ (item : ShardRecord) (doubt : Doubt) (doubt_is : record_of_doubt doubt ≡ without_bytes item) (same_was : new.was_released ≡ old.was_released) (is_file : IsFile (seen new.chunk.log.file)) where
       -- what the outcome of writing the record leaves
       abbrev AddsUp : {T : Type 0} → T → Result T ChunkFault → Type 0
       AddsUp reply (Ok x) = (x ≡ reply) × Held seen new (record written { items = written.items ++ item ∷ [] }) (with_record place (without_bytes item) (started place units)) place
@@ -156,6 +156,7 @@ module _ {E : Type 0} (seen : E → FileView) (old new : UnitOver E) (written : 
           (sym (ap (option_map record_of_doubt) doubted ∙ ap (λ (r : UnitRecord). Some r) doubt_is))
           (doubts (shown seen old.chunk) (shown seen new.chunk) (option_map record_of_doubt old.doubt) (is_released old) (is_released new) written units place held open_ item adds.ends.1 not_released is_new
           (adds.told written.items has_old).stands
+          (λ c left. (adds.told written.items has_old).any_moment.each c (is_file.present_counts (seen old.chunk.log.file).clock c (adds.told written.items has_old).any_moment.never_falls left))
           (flag_shut new.was_released new.chunk.is_shut new.chunk.kept.is_released was_new adds.ends.1 ∙ sym free))
       adds_up reply (Err (faults.Full end)) is_new doubted adds =
           let same = unwritten adds.ends.2 in

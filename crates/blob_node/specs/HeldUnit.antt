@@ -13,7 +13,7 @@ use Rattle.shard_record.specs.declared.record.ShardRecord.TheVariants as records
 use Rattle.unit_id.specs.declared.answer.Answer.TheVariants as answers
 use Rattle.unit_id.specs.declared.answer.Answer as answered
 use Rattle.disk_base.specs.Faults.{Rose}
-use Rattle.disk_base.specs.Disk.{FileView, Lasts}
+use Rattle.disk_base.specs.Disk.{FileView, AtEachMoment, Lasts}
 use Rattle.disk_base.specs.declared.fault.NoMemory.{NoMemory}
 use Rattle.chunk_store.specs.Kept.{KeptRows, row_of, kind_of}
 use Rattle.chunk_store.specs.Chunk.{ChunkOver, coded_chunk, shown, IsSound, HasRecords}
@@ -27,7 +27,7 @@ use Rattle.chunk_store.specs.declared.fault.ChunkFault.{ChunkFault}
 use Rattle.chunk_store.specs.declared.fault.ChunkFault.TheVariants as faults
 use Rattle.blob_node.specs.Units.{UnitRecord, Units, with_at}
 use Rattle.blob_node.specs.UnitAnswer.{Effect, Works, view_at, units_after, settled}
-use Rattle.blob_node.specs.Holding.{Written, Holds, item_of, with_item, written_after, ShowsBytes}
+use Rattle.blob_node.specs.Holding.{Written, Says, Holds, item_of, with_item, written_after, ShowsBytes}
 use Rattle.blob_node.specs.declared.held_unit.Doubt.{Doubt}
 use Rattle.blob_node.specs.declared.held_unit.Doubt.TheVariants as doubts
 
@@ -201,6 +201,11 @@ StartsBy seen written units place new (Err fault) =
 
 abbrev pub Restarted : {E : Type 0} → (E → FileView) → UnitOver E → UnitOver E → Result Bool ChunkFault → Type 0
 Restarted seen old new result = (written : Written) (units : Units) (place : Place) → Held seen old written units place → StartsBy seen written units place new result
+
+-- at each moment of a start a crash leaves of the file the records that were written, without the one in doubt or with it
+abbrev pub StartsThrough : {E : Type 0} → (E → FileView) → UnitOver E → UnitOver E → Type 0
+StartsThrough seen old new = (written : Written) (units : Units) (place : Place) → Held seen old written units place
+    → AtEachMoment (seen old.chunk.log.file) (seen new.chunk.log.file) (Says old.chunk.unit written.items written.doubt)
 
 -- ---- a request as a whole
 

@@ -11,6 +11,7 @@ use Rattle.shard_record.specs.Rows.{Row, Rows, rows_after, row_at}
 use Rattle.shard_record.specs.Rows as rows
 use Rattle.shard_record.specs.declared.record.ShardRecord.{ShardRecord}
 use Rattle.shard_record.specs.declared.record.ShardRecord.TheVariants as records
+use Rattle.disk_base.specs.Disk.{IsWithin}
 use Rattle.chunk_store.specs.Records.{IsChunkOf, IsWithOrWithout}
 use Rattle.chunk_store.specs.Chunk.{ChunkView, HasRecords}
 use Rattle.blob_node.specs.Units.{RowState, UnitRecord, Units, is_deleted}
@@ -71,11 +72,14 @@ abbrev pub Says : Name → List ShardRecord → Option ShardRecord → List ℕ 
 Says unit items None file = IsChunkOf file unit items
 Says unit items (Some item) file = IsWithOrWithout unit items item file
 
--- a chunk's file has what was written: while the chunk is open nothing is in doubt, and a crash leaves the file as it is
+-- A chunk's file has what was written. While the chunk is open nothing is in doubt, and a crash leaves the file as it is. While it is shut
+-- the file, and what a crash leaves of it, are each without the record in doubt or with it.
 abbrev pub FileHas : ChunkView → Written → Type 0
 FileHas chunk written =
     (chunk.is_shut ≡ false → HasRecords chunk written.items × (written.doubt ≡ None))
-    × (chunk.is_shut ≡ true → IsSomeAnd chunk.file.content (Says chunk.unit written.items written.doubt))
+    × (chunk.is_shut ≡ true →
+    IsSomeAnd chunk.file.content (Says chunk.unit written.items written.doubt)
+    × IsWithin chunk.file.images (Says chunk.unit written.items written.doubt))
 
 -- The chunk of a unit stands for it: what was written is in its file, and leaves what the protocol knows of the unit. Memory knows whether
 -- the unit is released, and the record in doubt. The protocol may count a chunk that is open as shut, and never the other way round.

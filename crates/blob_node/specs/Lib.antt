@@ -5,5 +5,6 @@ pub mod Link
 pub mod Holding
 pub mod HeldUnit
 pub mod UnitTable
+pub mod Starting
 pub mod NewChunk
 pub mod Station

@@ -26,6 +26,8 @@ module _ {F : Type 0} (seen : F → FileView) (unit : Name) (old new : ShelfView
     pub others : OthersStay (packed unit) old new
     pub told : new.is_told ≡ old.is_told
     pub counts : new.faults ≡ old.faults
+    pub quiet : new.is_quiet ≡ old.is_quiet
+    pub quiet_file : old.is_quiet ≡ true → (seen file).is_quiet ≡ true
 
   -- no file is handed out, and there is still none with records
   pub record IsRefused : Type 0 where
@@ -33,6 +35,7 @@ module _ {F : Type 0} (seen : F → FileView) (unit : Name) (old new : ShelfView
     pub others : OthersStay (packed unit) old new
     pub told : new.is_told ≡ old.is_told
     pub counts : old.faults ≤ new.faults
+    pub quiet : old.is_quiet ≡ true → new.is_quiet ≡ true
     pub empty : old.is_told ≡ true → HasNoRecords seen unit (old.place (packed unit)) → HasNoRecords seen unit (new.place (packed unit))
 
   -- a file without records is handed out

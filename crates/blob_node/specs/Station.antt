@@ -12,13 +12,13 @@ use Rattle.unit_id.specs.declared.request.Request as sent
 use Rattle.unit_id.specs.declared.answer.Answer as answered
 use Rattle.unit_id.specs.declared.answer.Answer.TheVariants as answers
 use Rattle.disk_base.specs.Faults.{Rose}
-use Rattle.disk_base.specs.Disk.{FileView}
+use Rattle.disk_base.specs.Disk.{FileView, AtEachMoment}
 use Rattle.disk_base.specs.Places.{Kept, Keeps}
 use Rattle.disk_base.specs.Shelves.{ShelfView}
 use Rattle.disk_base.specs.declared.fault.NoMemory.{NoMemory}
 use Rattle.blob_node.specs.Units.{Units, with_at, with_unit}
 use Rattle.blob_node.specs.UnitAnswer.{Effect, Answers, view_at, units_after, settled}
-use Rattle.blob_node.specs.Holding.{Written, nothing_written, item_of, written_after, ShowsBytes}
+use Rattle.blob_node.specs.Holding.{Written, Says, nothing_written, item_of, written_after, ShowsBytes}
 use Rattle.blob_node.specs.HeldUnit.{UnitOver, coded_unit, Held, settled_by, written_by, written_settled}
 use Rattle.blob_node.specs.UnitTable.{Entries, at_word, unit_at}
 use Rattle.blob_node.specs.NewChunk.{HasNoRecords}
@@ -49,6 +49,34 @@ IsWhole shelf = (name : ℕ) → shelf.is_out name ≡ false
 -- a file is handed out exactly where a unit stands under its name
 abbrev pub AreOut : {F : Type 0} → ShelfView F → Entries F → Type 0
 AreOut shelf units = (word : ℕ) → shelf.is_out word ≡ is_some (at_word word units)
+
+-- ---- records in doubt that a restart settles
+
+-- the units and what was written once these records in doubt are found or not
+abbrev pub units_settled : ℕ → List Settled → Units → Units
+units_settled disk [] units = units
+units_settled disk (item ∷ rest) units = units_settled disk rest (settled (place_at item.unit disk) item.found units)
+
+abbrev pub written_settled_by : ℕ → List Settled → (Place → Written) → Place → Written
+written_settled_by disk [] written = written
+written_settled_by disk (item ∷ rest) written =
+    written_settled_by disk rest (with_at (place_at item.unit disk) (written_settled item.found (written (place_at item.unit disk))) written)
+
+-- the names ascend by their words
+abbrev pub AreInOrder : List Settled → Type 0
+AreInOrder [] = Unit {0}
+AreInOrder (item ∷ rest) = ((other : Settled) → IsIn other rest → packed item.unit + 1 ≤ packed other.unit) × AreInOrder rest
+
+-- a record of this place was in doubt and is settled
+abbrev pub is_settled : ℕ → Place → List Settled → Bool
+is_settled disk place items = any (λ item. is_place (place_at item.unit disk) place) items
+
+-- all chunks of the disk are open, or count as shut
+abbrev pub all_open : ℕ → Units → Units
+all_open disk units = record units { is_shut = λ place. not (place.disk == disk) && units.is_shut place }
+
+abbrev pub all_shut : ℕ → Units → Units
+all_shut disk units = record units { is_shut = λ place. (place.disk == disk) || units.is_shut place }
 
 -- ---- what it stands for
 
@@ -85,6 +113,24 @@ module _ {H F : Type 0} (shelf_seen : H → ShelfView F) (seen : F → FileView)
 
   abbrev pub faults_of : StationOver H F → ℕ
   faults_of station = (shelf_seen station.shelf).faults + file_faults station.units
+
+  -- ---- what lasts
+
+  -- no call on the file of any of these units ever fails
+  abbrev pub AreQuiet : Entries F → Type 0
+  AreQuiet [] = Unit {0}
+  AreQuiet (entry ∷ rest) = ((seen entry.1.chunk.log.file).is_quiet ≡ true) × AreQuiet rest
+
+  -- no call on the shelf or on a unit's file ever fails
+  pub record IsQuiet (station : StationOver H F) : Type 0 where
+    pub shelf : (shelf_seen station.shelf).is_quiet ≡ true
+    pub files : AreQuiet station.units
+
+  -- What stays or goes up whatever is asked: whether the shelf tells, that no call ever fails, and how often one has failed.
+  pub record Outlasts (old new : StationOver H F) : Type 0 where
+    pub told : (shelf_seen new.shelf).is_told ≡ (shelf_seen old.shelf).is_told
+    pub quiet : IsQuiet old → IsQuiet new
+    pub faults : faults_of old ≤ faults_of new
 
   -- ---- a request
 
@@ -139,32 +185,6 @@ module _ {H F : Type 0} (shelf_seen : H → ShelfView F) (seen : F → FileView)
 
   -- ---- a restart
 
-  -- the units and what was written once these records in doubt are found or not
-  abbrev pub units_settled : ℕ → List Settled → Units → Units
-  units_settled disk [] units = units
-  units_settled disk (item ∷ rest) units = units_settled disk rest (settled (place_at item.unit disk) item.found units)
-
-  abbrev pub written_settled_by : ℕ → List Settled → (Place → Written) → Place → Written
-  written_settled_by disk [] written = written
-  written_settled_by disk (item ∷ rest) written =
-      written_settled_by disk rest (with_at (place_at item.unit disk) (written_settled item.found (written (place_at item.unit disk))) written)
-
-  -- the names ascend by their words
-  abbrev pub AreInOrder : List Settled → Type 0
-  AreInOrder [] = Unit {0}
-  AreInOrder (item ∷ rest) = ((other : Settled) → IsIn other rest → packed item.unit + 1 ≤ packed other.unit) × AreInOrder rest
-
-  -- a record of this place was in doubt and is settled
-  abbrev pub is_settled : ℕ → Place → List Settled → Bool
-  is_settled disk place items = any (λ item. is_place (place_at item.unit disk) place) items
-
-  -- all chunks of the disk are open, or count as shut
-  abbrev pub all_open : ℕ → Units → Units
-  all_open disk units = record units { is_shut = λ place. not (place.disk == disk) && units.is_shut place }
-
-  abbrev pub all_shut : ℕ → Units → Units
-  all_shut disk units = record units { is_shut = λ place. (place.disk == disk) || units.is_shut place }
-
   -- After Done all are open, and every record in doubt is settled. After a fault each may be shut. Want of memory ends the restart at a chunk.
   abbrev pub RestartsBy : (Place → Written) → Units → List Settled → Result answered.Answer NoMemory → StationOver H F → Type 0
   RestartsBy written units items (Ok answers.Done) new =
@@ -179,11 +199,21 @@ module _ {H F : Type 0} (shelf_seen : H → ShelfView F) (seen : F → FileView)
     pub order : AreInOrder items
     pub in_doubt : (item : Settled) → IsIn item items → is_some (units.doubt (place_at item.unit new.disk)) ≡ true
 
-  -- a broken station starts nothing
+  -- a unit of this word is there again, and at each moment in between a crash leaves of its file its records, without the one in doubt or with it
+  pub record IsKept (written : Written) (word : ℕ) (was : UnitOver F) (new : StationOver H F) : Type 0 where
+    pub now : UnitOver F
+    pub found : at_word word new.units ≡ Some now
+    pub unit : now.chunk.unit ≡ was.chunk.unit
+    pub moments : AtEachMoment (seen was.chunk.log.file) (seen now.chunk.log.file) (Says was.chunk.unit written.items written.doubt)
+
+  abbrev pub AreKept : (Place → Written) → StationOver H F → StationOver H F → Type 0
+  AreKept written old new = (word : ℕ) (was : UnitOver F) → at_word word old.units ≡ Some was → IsKept (written (place_at was.chunk.unit old.disk)) word was new
+
+  -- A broken station starts nothing. A crash at any moment of a restart leaves each unit with its records.
   abbrev pub Restarted : List Settled → Result answered.Answer NoMemory → StationOver H F → StationOver H F → Type 0
   Restarted items result old new =
       ((old.is_broken ≡ true) × (items ≡ []) × (result ≡ Ok answers.Done) × (new ≡ old))
-      ⊎ ((old.is_broken ≡ false) × ((written : Place → Written) (units : Units) → Stands old written units → Restarts written units items result new))
+      ⊎ ((old.is_broken ≡ false) × ((written : Place → Written) (units : Units) → Stands old written units → Restarts written units items result new × AreKept written old new))
 
   -- ---- the shelf in the end
 

@@ -11,7 +11,7 @@ use Rattle.chunk_store.specs.declared.fault.ChunkFault.{ChunkFault}
 use Rattle.chunk_store.specs.Chunk.{ChunkCall}
 use Rattle.chunk_store.specs.Kept.{shut_after}
 use Rattle.blob_node.specs.declared.settled.Settled.{Settled}
-use Rattle.blob_node.specs.HeldUnit.{UnitOver, coded_unit, is_released, UnitCall, Served, Restarted, IsStartRefusal}
+use Rattle.blob_node.specs.HeldUnit.{UnitOver, coded_unit, is_released, UnitCall, Served, Restarted, StartsThrough, IsStartRefusal}
 
 -- units by the words of their names
 abbrev pub Entries : Type 0 → Type 0
@@ -94,6 +94,7 @@ pub record StartsOne {F : Type 0} (seen : F → FileView) (was now : UnitOver F)
   pub ends : MatchResult started (λ _. now.chunk.is_shut ≡ false) (λ fault. now.chunk.is_shut ≡ shut_after fault was.chunk.is_shut)
   pub named : IfErr started IsStartRefusal
   pub restarted : Restarted seen was now started
+  pub through : StartsThrough seen was now
   pub tells : Tells was started result
 
 pub record StartsIn {F : Type 0} (seen : F → FileView) (word : ℕ) (old new : TableOver F) (result : Result (Option Settled) ChunkFault) : Type 0 where

@@ -9,7 +9,7 @@ ghost use Rattle.unit_id.specs.declared.request.Request.TheVariants as requests;
 ghost use Rattle.unit_id.specs.Place.{Place};
 ghost use Rattle.blob_node.specs.Units.{Units, with_unit};
 ghost use Rattle.blob_node.specs.Holding.{nothing_written};
-ghost use Rattle.blob_node.specs.HeldUnit.{IsFresh, Held, IsStartRefusal, name_of, is_create, CarriesShard, Served, GoesOn, is_released, is_found, Refused, Gives, GivesListing, of_put, of_change, of_unit, of_got, doubt_by, Worked, UnitCall, Restarted};
+ghost use Rattle.blob_node.specs.HeldUnit.{IsFresh, Held, IsStartRefusal, name_of, is_create, CarriesShard, Served, GoesOn, is_released, is_found, Refused, Gives, GivesListing, of_put, of_change, of_unit, of_got, doubt_by, Worked, UnitCall, Restarted, StartsThrough};
 
 use chunk_store::{Chunk, ChunkFault, Got, Put, RowKind};
 use disk_base::{Extent, NoMemory};
@@ -104,12 +104,14 @@ impl<E: Extent> HeldUnit<E> {
     ///
     /// `Fault` only where the file's count of faults rose, `Damaged` and `Spoiled` as the file says, which a file
     /// that tells never does. The chunk is then shut, and what was in doubt stays so; `Memory` leaves it as it was.
+    /// A crash at any moment leaves the file's records, without the one in doubt or with it.
     pub fn start(&mut self) -> Result<bool, ChunkFault>
         ensures unit { self.new.chunk.unit ≡ self.old.chunk.unit }
         ensures call { ChunkCall (E.seen self.old.chunk.log.file) (E.seen self.new.chunk.log.file) result }
         ensures ends { MatchResult result (λ _. self.new.chunk.is_shut ≡ false) (λ fault. self.new.chunk.is_shut ≡ shut_after fault self.old.chunk.is_shut) }
         ensures named { IfErr result IsStartRefusal }
         ensures told { Restarted E.seen self.old self.new result }
+        ensures moments { StartsThrough E.seen self.old self.new }
         ensures sound { IsSound (shown E.seen self.new.chunk) }
     {
         self.was_released = self.is_released();
@@ -346,7 +348,8 @@ fn change_answer(outcome: Result<bool, ChunkFault>) -> Result<Answer, NoMemory>
     }
 }
 
-fn unit_answer(outcome: Result<(), ChunkFault>) -> Result<Answer, NoMemory>
+// What the outcome of a call with nothing to give is answered with.
+pub(crate) fn unit_answer(outcome: Result<(), ChunkFault>) -> Result<Answer, NoMemory>
     ensures { Gives of_unit outcome result }
 {
     match outcome {

@@ -9,12 +9,14 @@
 //! in doubt is settled by the next start, which says whether it was found.
 //!
 //! `Station` is all units of one volume on one disk, over a shelf: it makes units, finds them by a hash of their names
-//! and answers each request by the protocol's relation. `specs/Station` says what a station stands for over a shelf that
-//! tells, and what a request leaves. `Link` plans by disk what happens to messages.
+//! and answers each request by the protocol's relation. A restart starts all of them in turn and tells what it found of
+//! records in doubt (`Settled`). `specs/Station` says what a station stands for over a shelf that tells, and what a
+//! request and a restart leave; `specs/Starting` has the starts one after the other. `Link` plans by disk what happens
+//! to messages.
 //!
 //! Public: `HeldUnit` with `over`, `start`, `serve`, `unit`, `is_released`, `is_in_doubt`, `is_shut` and `into_chunk`;
-//! `Station` with `make`, `handle`, `unit`, `is_broken`, `disk`, `vid`, `break_down` and `into_shelf`; `Link` with `make`,
-//! `plan`, `peek` and `next`; `Fate`; the laws of `laws`.
+//! `Station` with `make`, `handle`, `restart`, `unit`, `is_broken`, `disk`, `vid`, `break_down` and `into_shelf`;
+//! `Settled`; `Link` with `make`, `plan`, `peek` and `next`; `Fate`; the laws of `laws`.
 #![tactic(auto)]
 
 mod fate;
@@ -23,7 +25,10 @@ mod held_unit;
 pub mod laws;
 mod link;
 mod new_chunk;
+#[cfg(test)]
+mod restart_tests;
 mod settled;
+mod starting;
 mod station;
 #[cfg(test)]
 mod station_tests;

@@ -9,15 +9,15 @@ ghost use Rattle.unit_id.specs.Place.{Place};
 ghost use Rattle.blob_node.specs.Holding.{Written};
 ghost use Rattle.blob_node.specs.HeldUnit.{name_of, is_create, disk_of, CarriesShard};
 ghost use Rattle.blob_node.specs.UnitTable.{unit_at};
-ghost use Rattle.blob_node.specs.Station.{IsWhole, IsUnused, HasNone, Stands, StationCall, Handled, Restarted, IsHandedBack, Created, CountsFault, faults_of};
+ghost use Rattle.blob_node.specs.Station.{IsWhole, IsUnused, HasNone, Stands, StationCall, Handled, Restarted, IsHandedBack, Created, CountsFault, faults_of, IsQuiet, Outlasts};
 
 use crate::HeldUnit;
 use crate::hand_back::hand_back;
-use crate::held_unit::refusal;
+use crate::held_unit::{refusal, unit_answer};
 use crate::new_chunk::new_chunk;
 use crate::settled::Settled;
+use crate::starting::start_all;
 use crate::unit_table::UnitTable;
-use chunk_store::ChunkFault;
 use disk_base::{NoMemory, Shelf};
 use std::alloc::Global;
 use std::marker::Model;
@@ -61,6 +61,7 @@ impl<H: Shelf> Station<H> {
     pub fn make(alloc: Global, shelf: H, vid: u32, disk: u32) -> Station<H>
         requires { IsWhole (H.seen shelf) }
         ensures parts { result ≡ record { shelf = shelf; vid = vid; disk = disk; is_broken = false; units = [] } }
+        ensures quiet { (H.seen shelf).is_quiet ≡ true → IsQuiet H.seen H.File.seen result }
         ensures told { (H.seen shelf).is_told ≡ true → IsUnused H.File.seen vid (H.seen shelf) → (written : Place → Written) (units : Units) → HasNone disk units → Stands H.seen H.File.seen result written units }
     {
         Station {
@@ -120,6 +121,7 @@ impl<H: Shelf> Station<H> {
         requires sizes { CarriesShard request.now }
         ensures call { StationCall H.seen H.File.seen self.old self.new result.1 }
         ensures told { Handled H.seen H.File.seen request.now result.0 result.1 self.old self.new }
+        ensures lasts { Outlasts H.seen H.File.seen self.old self.new }
     {
         if self.is_broken {
             return (None, Ok(Answer::Broken));
@@ -138,6 +140,28 @@ impl<H: Shelf> Station<H> {
         self.units.serve(unit, request, have)
     }
 
+    /// Starts the chunk of each unit, open or shut, in the order of the words of their names, and settles every record
+    /// in doubt. The first part of the result tells of each whether it was found. The second is `Done` where all
+    /// chunks started, and else names why the first that didn't gave up: the restart ends at it, and the chunks behind
+    /// it stay as they were. A crash at any moment leaves each file its records, without the one in doubt or with it. A
+    /// broken station starts nothing and answers `Done`.
+    ///
+    /// # Errors
+    ///
+    /// For want of memory the restart ends too: what is told until then is settled, and every other record that was
+    /// in doubt stays so.
+    pub fn restart(&mut self) -> (Vec<Settled>, Result<Answer, NoMemory>)
+        ensures call { StationCall H.seen H.File.seen self.old self.new result.1 }
+        ensures told { Restarted H.seen H.File.seen result.0.items result.1 self.old self.new }
+    {
+        let mut settled = Vec::new(self.alloc);
+        if self.is_broken {
+            return (settled, Ok(Answer::Done));
+        }
+        let answer = unit_answer(start_all(self.alloc, &mut self.units, &mut settled));
+        (settled, answer)
+    }
+
     /// The shelf, with the file of each unit back on it. It takes no memory and is no call on the shelf.
     pub fn into_shelf(self) -> H
         ensures { IsHandedBack H.seen H.File.seen self result }
@@ -151,6 +175,7 @@ impl<H: Shelf> Station<H> {
         requires vid { unit.vid ≡ self.old.vid }
         ensures call { StationCall H.seen H.File.seen self.old self.new result }
         ensures told { Created H.seen H.File.seen unit result self.old self.new }
+        ensures lasts { Outlasts H.seen H.File.seen self.old self.new }
     {
         if self.units.has(unit) {
             return Ok(Answer::Already);

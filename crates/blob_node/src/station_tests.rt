@@ -10,10 +10,10 @@ use std::test::Fail;
 use unit_id::{Bytes, Request, UnitName};
 
 /// Call `c` of the first file that a shelf hands out fails where it is told this number more.
-const FIRST_FILE: u64 = 0x1_0000_0000;
+pub(crate) const FIRST_FILE: u64 = 0x1_0000_0000;
 
 /// A station of volume 1 on disk 3, some of whose calls fail.
-fn station(alloc: Global, fails: Vec<u64>) -> Station<MemShelf> {
+pub(crate) fn station(alloc: Global, fails: Vec<u64>) -> Station<MemShelf> {
     Station::make(alloc, MemShelf::new(alloc, fails), 1, 3)
 }
 
@@ -24,7 +24,11 @@ fn unit_of(station: &Station<MemShelf>, index: u8, epoch: u32) -> Result<UnitNam
     Ok(UnitName::new(station.vid(), index, epoch)?)
 }
 
-fn create(station: &mut Station<MemShelf>, index: u8, epoch: u32) -> Result<Heard, Fail> {
+pub(crate) fn create(
+    station: &mut Station<MemShelf>,
+    index: u8,
+    epoch: u32,
+) -> Result<Heard, Fail> {
     let unit = unit_of(station, index, epoch)?;
     let request = Request::Create {
         unit,
@@ -39,7 +43,17 @@ fn put(
     station: &mut Station<MemShelf>,
     bid: u64,
 ) -> Result<(Option<bool>, Heard), Fail> {
-    let unit = unit_of(station, 0, 1)?;
+    put_at(alloc, station, 0, bid)
+}
+
+/// The same to the unit of an index.
+pub(crate) fn put_at(
+    alloc: Global,
+    station: &mut Station<MemShelf>,
+    index: u8,
+    bid: u64,
+) -> Result<(Option<bool>, Heard), Fail> {
+    let unit = unit_of(station, index, 1)?;
     let request = Request::Put {
         unit,
         disk: station.disk(),
@@ -51,7 +65,7 @@ fn put(
     Ok((found, word(answer)?))
 }
 
-fn read(station: &mut Station<MemShelf>, index: u8, epoch: u32) -> Result<Heard, Fail> {
+pub(crate) fn read(station: &mut Station<MemShelf>, index: u8, epoch: u32) -> Result<Heard, Fail> {
     let unit = unit_of(station, index, epoch)?;
     let request = Request::Read {
         unit,

@@ -13,6 +13,6 @@ returns-clause-call g c =
 pub returns-clause-told : goal.returns-clause-told
 returns-clause-told g c = λ disk written units place held.
     fence_works g.E.Extent.seen c.args.self.now (record { chunk = c.fence-outcome.new.self; doubt = c.doubt_by-self-inside.result; was_released = c.self.inside.was_released })
-    c.requires.open c.requires.sound c.requires.unreleased (ap (λ (u : UnitOver g.row.E.Denot). u.was_released) c.self.view_is) c.unit_answer.result written units place held disk c.args.lock c.fence-outcome.result
+    c.requires.open c.requires.sound c.requires.unreleased (ap (λ (u : UnitOver g.row.E.Denot). u.was_released) c.self.view_is) (g.met.E.Extent.is_file c.fence-outcome.new.self.log.file) c.unit_answer.result written units place held disk c.args.lock c.fence-outcome.result
     (subst (λ (u : UnitOver g.row.E.Denot). Does g.E.Extent.seen (fence_plan u.chunk c.args.lock) u.chunk c.fence-outcome.new.self c.fence-outcome.result) c.self.view_is c.fence-outcome.ensures)
     c.doubt_by-self-inside.ensures c.unit_answer.ensures

@@ -13,6 +13,6 @@ returns-clause-call g c =
 pub returns-clause-told : goal.returns-clause-told
 returns-clause-told g c = λ disk written units place held.
     free_works g.E.Extent.seen c.args.self.now (record { chunk = c.free-outcome.new.self; doubt = c.doubt_by-self-inside.result; was_released = c.self.inside.was_released })
-    c.requires.open c.requires.sound c.requires.unreleased (ap (λ (u : UnitOver g.row.E.Denot). u.was_released) c.self.view_is) c.change_answer.result written units place held disk c.args.bid c.free-outcome.result
+    c.requires.open c.requires.sound c.requires.unreleased (ap (λ (u : UnitOver g.row.E.Denot). u.was_released) c.self.view_is) (g.met.E.Extent.is_file c.free-outcome.new.self.log.file) c.change_answer.result written units place held disk c.args.bid c.free-outcome.result
     (subst (λ (u : UnitOver g.row.E.Denot). Does g.E.Extent.seen (free_plan u.chunk c.args.bid) u.chunk c.free-outcome.new.self c.free-outcome.result) c.self.view_is c.free-outcome.ensures)
     c.doubt_by-self-inside.ensures c.change_answer.ensures

@@ -13,13 +13,13 @@ returns-clause-call g c =
 pub returns-clause-told : goal.returns-clause-told
 returns-clause-told g c = λ disk written units place held.
     put_works g.E.Extent.seen c.args.self.now (record { chunk = c.put-outcome.new.self; doubt = c.doubt_by-self-inside.result; was_released = c.self.inside.was_released })
-    c.requires.open c.requires.sound c.requires.unreleased (ap (λ (u : UnitOver g.row.E.Denot). u.was_released) c.self.view_is) c.put_answer.result written units place held disk c.args.bid c.args.blob_size c.args.bytes.now c.put-outcome.result
+    c.requires.open c.requires.sound c.requires.unreleased (ap (λ (u : UnitOver g.row.E.Denot). u.was_released) c.self.view_is) (g.met.E.Extent.is_file c.put-outcome.new.self.log.file) c.put_answer.result written units place held disk c.args.bid c.args.blob_size c.args.bytes.now c.put-outcome.result
     (subst (λ (u : UnitOver g.row.E.Denot). Does g.E.Extent.seen (put_plan u.chunk c.args.bid c.args.blob_size c.args.bytes.now) u.chunk c.put-outcome.new.self c.put-outcome.result) c.self.view_is c.put-outcome.ensures)
     c.doubt_by-self-inside.ensures c.put_answer.ensures
 
 pub returns-clause-copied : goal.returns-clause-copied
 returns-clause-copied g c = λ disk written units place held.
     copy_works g.E.Extent.seen c.args.self.now (record { chunk = c.put-outcome.new.self; doubt = c.doubt_by-self-inside.result; was_released = c.self.inside.was_released })
-    c.requires.open c.requires.sound c.requires.unreleased (ap (λ (u : UnitOver g.row.E.Denot). u.was_released) c.self.view_is) c.put_answer.result written units place held disk c.args.bid c.args.blob_size c.args.bytes.now c.put-outcome.result
+    c.requires.open c.requires.sound c.requires.unreleased (ap (λ (u : UnitOver g.row.E.Denot). u.was_released) c.self.view_is) (g.met.E.Extent.is_file c.put-outcome.new.self.log.file) c.put_answer.result written units place held disk c.args.bid c.args.blob_size c.args.bytes.now c.put-outcome.result
     (subst (λ (u : UnitOver g.row.E.Denot). Does g.E.Extent.seen (put_plan u.chunk c.args.bid c.args.blob_size c.args.bytes.now) u.chunk c.put-outcome.new.self c.put-outcome.result) c.self.view_is c.put-outcome.ensures)
     c.doubt_by-self-inside.ensures c.put_answer.ensures

@@ -5,7 +5,7 @@ use Rattle.shard_record.specs.declared.record.ShardRecord.{ShardRecord}
 use Rattle.chunk_store.specs.Records.{IsChunkOf}
 use Rattle.chunk_store.specs.Chunk.{shown, StartsWith, StartEnds}
 use Rattle.blob_node.specs.HeldUnit.{UnitOver, is_released, is_found, record_of_doubt, written_settled}
-use Rattle.blob_node.proofs.Settling.{says_it, starts_ok, starts_err}
+use Rattle.blob_node.proofs.Settling.{says_it, starts_ok, starts_err, starts_through}
 use Rattle.blob_node.proofs.held_unit.HeldUnit.start.Goals as goal
 
 pub returns-in-Ok-clause-told : goal.returns-in-Ok-clause-told
@@ -34,3 +34,22 @@ returns-in-Err-clause-told g c = λ written units place held.
     (subst (StartsWith (written_settled says.found written).items (shown g.E.Extent.seen old.chunk) (shown g.E.Extent.seen c.start.new.self)) c.in-Err.is
     (subst (λ (u : UnitOver g.row.E.Denot). (items : List ShardRecord) → IsSomeAnd (g.E.Extent.seen u.chunk.log.file).content (λ file. IsChunkOf file u.chunk.unit items) → StartsWith items (shown g.E.Extent.seen u.chunk) (shown g.E.Extent.seen c.start.new.self) c.start.result) c.self.view_is c.start.ensures.records
     (written_settled says.found written).items says.says))
+    (g.met.E.Extent.is_file c.start.new.self.log.file)
+
+pub returns-in-Ok-clause-moments : goal.returns-in-Ok-clause-moments
+returns-in-Ok-clause-moments g c = λ written units place held.
+    let old = c.args.self.now in
+    let says = says_it (shown g.E.Extent.seen old.chunk) (option_map record_of_doubt old.doubt) (is_released old) written units place held in
+    starts_through (shown g.E.Extent.seen old.chunk) (shown g.E.Extent.seen c.start.new.self) (option_map record_of_doubt old.doubt) (is_released old) written units place held says
+    (c.start.ensures.unit ∙ ap (λ (u : UnitOver g.row.E.Denot). u.chunk.unit) c.self.view_is) c.start.result
+    (subst (λ (u : UnitOver g.row.E.Denot). (items : List ShardRecord) → IsSomeAnd (g.E.Extent.seen u.chunk.log.file).content (λ file. IsChunkOf file u.chunk.unit items) → StartsWith items (shown g.E.Extent.seen u.chunk) (shown g.E.Extent.seen c.start.new.self) c.start.result) c.self.view_is c.start.ensures.records
+    (written_settled says.found written).items says.says)
+
+pub returns-in-Err-clause-moments : goal.returns-in-Err-clause-moments
+returns-in-Err-clause-moments g c = λ written units place held.
+    let old = c.args.self.now in
+    let says = says_it (shown g.E.Extent.seen old.chunk) (option_map record_of_doubt old.doubt) (is_released old) written units place held in
+    starts_through (shown g.E.Extent.seen old.chunk) (shown g.E.Extent.seen c.start.new.self) (option_map record_of_doubt old.doubt) (is_released old) written units place held says
+    (c.start.ensures.unit ∙ ap (λ (u : UnitOver g.row.E.Denot). u.chunk.unit) c.self.view_is) c.start.result
+    (subst (λ (u : UnitOver g.row.E.Denot). (items : List ShardRecord) → IsSomeAnd (g.E.Extent.seen u.chunk.log.file).content (λ file. IsChunkOf file u.chunk.unit items) → StartsWith items (shown g.E.Extent.seen u.chunk) (shown g.E.Extent.seen c.start.new.self) c.start.result) c.self.view_is c.start.ensures.records
+    (written_settled says.found written).items says.says)

@@ -4,9 +4,10 @@ use Rattle.unit_id.specs.UnitName.{packed}
 use Rattle.unit_id.specs.declared.answer.Answer.TheVariants as answers
 use Rattle.blob_node.specs.HeldUnit.{UnitOver}
 use Rattle.blob_node.specs.UnitTable.{Entries}
-use Rattle.blob_node.specs.Station.{StationOver, Created}
+use Rattle.blob_node.specs.Station.{StationOver, Created, Outlasts}
 use Rattle.blob_node.proofs.Serving.{station_of}
 use Rattle.blob_node.proofs.Creating.{already, made, made_out, not_created}
+use Rattle.blob_node.proofs.Lasting.{lasts_made}
 use Rattle.blob_node.proofs.station.Station.create.Goals as goal
 
 pub returns-then-has-clause-told : goal.returns-then-has-clause-told
@@ -42,3 +43,10 @@ returns-in-Err-clause-told g c =
     (not_created g.H.Shelf.seen g.H.File.Extent.seen c.self.inside.shelf c.self.inside.disk c.self.inside.is_broken c.self.inside.units c.args.unit c.requires.name
     (c.requires.vid ∙ ap (λ (s : StationOver g.row.H.Denot g.row.H-File.Denot). s.vid) (sym c.self.view_is)) (sym c.has.ensures ∙ c.if-has.false)
     c.new_chunk.new.shelf c.reserve.new.self c.in-Err.fault c.refusal.result c.in-Err.ensures c.reserve.ensures.vid c.reserve.ensures.units c.refusal.ensures)
+
+pub returns-in-Ok-clause-lasts : goal.returns-in-Ok-clause-lasts
+returns-in-Ok-clause-lasts g c =
+    subst (λ (s : StationOver g.row.H.Denot g.row.H-File.Denot). Outlasts g.H.Shelf.seen g.H.File.Extent.seen s (station_of c.new_chunk.new.shelf c.self.inside.disk c.self.inside.is_broken c.add.new.self)) c.self.view_is
+    (lasts_made g.H.Shelf.seen g.H.File.Extent.seen c.self.inside.shelf c.new_chunk.new.shelf c.self.inside.disk c.self.inside.is_broken c.self.inside.units c.add.new.self c.args.unit c.in-Ok.chunk c.over.result c.in-Ok.ensures
+    (ap (λ (u : UnitOver g.row.H-File.Denot). u.chunk) c.over.ensures.parts) (packed c.over.result.chunk.unit)
+    (c.add.ensures.units ∙ ap (λ (es : Entries g.row.H-File.Denot). es ++ (packed c.over.result.chunk.unit, c.over.result) ∷ []) c.reserve.ensures.units))

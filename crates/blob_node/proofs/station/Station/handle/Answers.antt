@@ -7,10 +7,11 @@ use Rattle.unit_id.specs.declared.answer.Answer.TheVariants as answers
 use Rattle.unit_id.proofs.Bools.{or_none}
 use Rattle.blob_node.specs.HeldUnit.{name_of, disk_of}
 use Rattle.blob_node.specs.UnitTable.{Entries, at_word, unit_at, knows_released, greatest_of, AreNamed, ServesIn}
-use Rattle.blob_node.specs.Station.{StationOver, StationCall, Handled, Created}
+use Rattle.blob_node.specs.Station.{StationOver, StationCall, Handled, Created, Outlasts}
 use Rattle.blob_node.proofs.Tables.{some_set}
 use Rattle.blob_node.proofs.Serving.{station_of, serve_handles, serve_call}
 use Rattle.blob_node.proofs.Handling.{broken, stale, no_unit, created, not_less}
+use Rattle.blob_node.proofs.Lasting.{lasts_replaced}
 use Rattle.blob_node.proofs.station.Station.handle.Goals as goal
 
 pub returns-then-self-clause-told : goal.returns-then-self-clause-told
@@ -105,3 +106,8 @@ returns-clause-told g c =
     (serve_handles sees seen c.self.inside.shelf c.self.inside.disk c.self.inside.units after request c.greatest-have.result c.serve.result.0 c.serve.result.1 named name own at (sym c.is_create.ensures ∙ c.if-is_create.false) have_is
     (not_less c.greatest-have.result (name_of request).epoch (greatest_of station.units (name_of request).index) have_is both.0) both.1
     (subst (λ (n : Name). ServesIn seen (packed n) request c.greatest-have.result c.self.inside.units after c.serve.result.0 c.serve.result.1) is c.serve.ensures)))
+
+pub returns-clause-lasts : goal.returns-clause-lasts
+returns-clause-lasts g c =
+    subst (λ (s : StationOver g.row.H.Denot g.row.H-File.Denot). Outlasts g.H.Shelf.seen g.H.File.Extent.seen s (station_of c.self.inside.shelf c.self.inside.disk c.self.inside.is_broken c.serve.new.self)) c.self.view_is
+    (lasts_replaced g.H.Shelf.seen g.H.File.Extent.seen c.self.inside.shelf c.self.inside.disk c.self.inside.is_broken c.self.inside.units c.serve.new.self (packed c.unit_of-unit.result) c.serve.ensures.was c.serve.ensures.now c.serve.ensures.replaces c.serve.ensures.call.lasts)
