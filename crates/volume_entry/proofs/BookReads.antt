@@ -21,6 +21,7 @@ use Rattle.volume_entry.specs.declared.table.Table.{Table}
 use Rattle.volume_entry.specs.declared.fault.EntryFault.{EntryFault}
 use Rattle.volume_entry.specs.declared.fault.EntryFault.TheVariants as faults
 use Rattle.volume_entry.proofs.OneSpelling.{one_to_one}
+use Rattle.volume_entry.proofs.NamedUnits.{named_first}
 use Rattle.volume_entry.proofs.SoundParts.{sound_after}
 use Rattle.volume_entry.proofs.LogEnds.{reads_keep}
 use Rattle.volume_entry.proofs.BookEnds.{log_says}
@@ -40,6 +41,8 @@ pub sound_first : (shape : Shape) (place : ℕ) (homes : List Location) (m : Man
 sound_first shape place homes m some first is = subst (IsSoundPart (shape_of shape) (Some place)) (sym is) (record {
   homes = first.count;
   moves = omega arith;
+  named = named_first (shape_of shape) homes first;
+  moves_named = λ t i. absurd i;
   greatest = λ i below. let e = greatest_first homes i in let h = (first.epochs i below).1 in omega (arith, e, h);
   version = some;
   granted = omega arith;
@@ -158,13 +161,13 @@ module _ (vid : ℕ) (shape : Shape) (bodies : List (List ℕ)) where
       go [] (_ ∷ is) e s l = absurd s
       go (b ∷ bs) is e s l = cc
 
-  pub all_refused : (place : ℕ) (now new part : Manager) (fault : EntryFault) → IsReadTo vid shape bodies place now part → place < end_place bodies → NextAnswers vid shape bodies place now new (Err fault) → AllAnswer part_of part (Err fault)
+  pub all_refused : (place : ℕ) (now new part : Manager) (fault : EntryFault) → IsReadTo vid shape bodies place now part → place < end_place bodies → NextAnswers vid shape bodies place now new (Err fault) → AllAnswer part_of (end_place bodies) part (Err fault)
   all_refused place now new part faults.Fault read below is = tt
   all_refused place now new part faults.Memory read below is = tt
   all_refused place now new part (faults.Spoiled at) read below is = absurd (is part read below)
   all_refused place now new part faults.Shut read below is = absurd (is part read below)
 
-  pub all_unmade : (items : List ManagerRecord) (part : Manager) (fault : EntryFault) → AreSpelled vid shape.mode items bodies → IsLog (shape_of shape) items part → FirstAnswers vid shape bodies (Err fault) → AllAnswer part_of part (Err fault)
+  pub all_unmade : (items : List ManagerRecord) (part : Manager) (fault : EntryFault) → AreSpelled vid shape.mode items bodies → IsLog (shape_of shape) items part → FirstAnswers vid shape bodies (Err fault) → AllAnswer part_of (end_place bodies) part (Err fault)
   all_unmade items part faults.Fault spelled log is = tt
   all_unmade items part faults.Memory spelled log is = tt
   all_unmade items part (faults.Spoiled at) spelled log is = absurd (is items part spelled log)
@@ -184,11 +187,11 @@ same_place end a b e f = cc
 -- ---- a whole start
 
 module _ {T : Type 0} (part_in : T → Manager) (bodies : List (List ℕ)) (part : Manager) (old new : LogView) where
-  pub started_told : (result : Result T EntryFault) → HasBodies new bodies → AllAnswer part_in part result → StartAnswers part_in bodies part old new result
+  pub started_told : (result : Result T EntryFault) → HasBodies new bodies → AllAnswer part_in (end_place bodies) part result → StartAnswers part_in bodies part old new result
   started_told (Ok found) has is = (is, has)
   started_told (Err faults.Fault) has is = log_says new bodies has
   started_told (Err faults.Memory) has is = (log_says new bodies has, λ _. has)
-  started_told (Err (faults.Spoiled place)) has is = (is, log_says new bodies has)
+  started_told (Err (faults.Spoiled place)) has is = (is.0, is.1, log_says new bodies has)
   started_told (Err faults.Shut) has is = absurd is
 
   not_bad : (content : Option (List ℕ)) (bad : Contents) → (holds bodies ≡ bad → ⊥) → IsSomeAnd content (λ file. IsLogOf file bodies) → IfSome content (λ file. contents_of file ≡ bad) → ⊥

@@ -71,7 +71,7 @@ says_more vid mode bodies item body (Some file) spells log = inr (body, spells, 
 answer_says : {T : Type 0} (part_in : T → Manager) (bodies : List (List ℕ)) (part : Manager) (old new : LogView) (why : EntryFault) → StartAnswers part_in bodies part old new (Err why) → IsSomeAnd new.file.content (λ file. IsLogOf file bodies)
 answer_says part_in bodies part old new faults.Fault is = is
 answer_says part_in bodies part old new faults.Memory is = is.0
-answer_says part_in bodies part old new (faults.Spoiled place) is = is.1
+answer_says part_in bodies part old new (faults.Spoiled place) is = is.2
 answer_says part_in bodies part old new faults.Shut is = absurd is
 
 module _ {E : Type 0} (seen : E → FileView) (vid : ℕ) (shape : Shape) (before after : LogOver E) (old new : Manager) (at : Option ℕ) (was_shut : Bool) where
@@ -218,7 +218,7 @@ module _ {E : Type 0} (seen : E → FileView) (vid : ℕ) (shape : Shape) (befor
 
 -- an end that stays leaves a sound part
 pub sound_still : (shape : Shape) (was end : Option ℕ) (part : Manager) (why : EntryFault) (flag : Bool) → flag ≡ shut_after why was end → IsSoundPart (shape_of shape) was part → IsSoundPart (shape_of shape) (end_unless flag end) part
-sound_still shape was end part why true is sound = record { homes = sound.homes; moves = sound.moves; greatest = sound.greatest; version = tt; granted = tt }
+sound_still shape was end part why true is sound = record { homes = sound.homes; moves = sound.moves; named = sound.named; moves_named = sound.moves_named; greatest = sound.greatest; version = tt; granted = tt }
 sound_still shape was end part why false is sound = subst (λ o. IsSoundPart (shape_of shape) o part) (same why was end is) sound
   where
     one_place : (a b : ℕ) → false ≡ not (a == b) → a ≡ b

@@ -31,7 +31,7 @@ logged_written ManagerRecord.Unlocked m = refl
 logged_written (ManagerRecord.Asked bid) m = refl
 logged_written (ManagerRecord.Committed bid) m = refl
 
-shut_written : (item : ManagerRecord) (m : Manager) → (written item m).is_shut ≡ m.is_shut
+pub shut_written : (item : ManagerRecord) (m : Manager) → (written item m).is_shut ≡ m.is_shut
 shut_written (ManagerRecord.Made homes) m = refl
 shut_written (ManagerRecord.Leased end) m = refl
 shut_written (ManagerRecord.Locked task number grants) m = refl
@@ -41,7 +41,7 @@ shut_written ManagerRecord.Unlocked m = refl
 shut_written (ManagerRecord.Asked bid) m = refl
 shut_written (ManagerRecord.Committed bid) m = refl
 
-doubt_written : (item : ManagerRecord) (m : Manager) → (written item m).doubt ≡ m.doubt
+pub doubt_written : (item : ManagerRecord) (m : Manager) → (written item m).doubt ≡ m.doubt
 doubt_written (ManagerRecord.Made homes) m = refl
 doubt_written (ManagerRecord.Leased end) m = refl
 doubt_written (ManagerRecord.Locked task number grants) m = refl
@@ -58,7 +58,7 @@ still_heard (ManagerRecord.Asked bid) leaves total heard m r = asked_remembers t
 still_heard (ManagerRecord.Committed bid) leaves total heard m r = committed_remembers total heard bid m r
 still_heard _ leaves total heard m r = absurd leaves
 
-doubt_heard : (item : ManagerRecord) (total : ℕ) (heard : HeardMemory) (m : Manager) → Remembers total heard m → Remembers total heard (in_doubt item m)
+pub doubt_heard : (item : ManagerRecord) (total : ℕ) (heard : HeardMemory) (m : Manager) → Remembers total heard m → Remembers total heard (in_doubt item m)
 doubt_heard item total heard m r = record { listings = record { enough = r.listings.enough; shows = r.listings.shows }; moves = r.moves; marks = r.marks }
 
 module _ {E : Type 0} (seen : E → FileView) where
@@ -109,7 +109,7 @@ module _ {E : Type 0} (seen : E → FileView) where
   pub shut_rules : (time : ℕ) (event : ManagerEvent) (refusal : Manager → Option Reply) (entry : EntryOver E) → entry.book.log.end ≡ None → Rules seen time event refusal entry (Some (Err faults.Shut))
   shut_rules time event refusal entry none = (record { vid = refl; shape = refl; broken = refl; counts = refl }, (λ m s. (is_closed entry m s none, s)))
 
-  no_grant : (vid : ℕ) (broken : List Bool) (n : Manager) (reply : ManagerReply) → IsNoGrant reply → ShowsMoves vid broken n reply
+  pub no_grant : (vid : ℕ) (broken : List Bool) (n : Manager) (reply : ManagerReply) → IsNoGrant reply → ShowsMoves vid broken n reply
   no_grant vid broken n (replies.Granted lock moves) h = absurd h
   no_grant vid broken n _ h = tt
 

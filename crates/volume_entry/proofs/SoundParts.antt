@@ -1,5 +1,5 @@
 -- What holds of every part that legal records leave.
-use Rattle.std.proofs.Common.{◌≡◌, ◌∙◌, sym, ap, refl, subst, ℕ, zero, suc, ◌+◌, ◌<◌, ◌≤◌, Bool, true, false, cond, List, [], ◌∷◌, ◌++◌, length, Option, None, Some, inl, inr, arith}
+use Rattle.std.proofs.Common.{◌≡◌, ◌∙◌, sym, ap, refl, subst, ℕ, zero, suc, ◌+◌, ◌<◌, ◌≤◌, Bool, true, false, cond, List, [], ◌∷◌, ◌++◌, length, Option, None, Some, Err, inl, inr, arith}
 use Rattle.std.specs.Prelude.{◌==◌}
 use Rattle.unit_id.specs.Lists.{IsIn}
 use Rattle.unit_id.specs.Place.{Location}
@@ -13,9 +13,13 @@ use Rattle.std.specs.List.{flat_map}
 use Rattle.std.specs.Prelude.{IsSomeAnd, ◌*◌}
 use Rattle.std.proofs.lemmas.List.{length-append}
 use Rattle.volume_entry.specs.Spelling.{grant_bytes, fields_of}
-use Rattle.volume_entry.specs.Book.{IsSoundPart, HasRoom, HasRoomFor, item_size, end_unless}
+use Rattle.volume_entry.specs.Book.{IsSoundPart, HasRoom, HasRoomFor, AppendEnds, item_size, end_unless}
+use Rattle.volume_entry.specs.declared.fault.EntryFault.{EntryFault}
+use Rattle.volume_entry.specs.declared.fault.EntryFault.TheVariants as faults
+use Rattle.gate_log.specs.GateLog.{LogView}
 use Rattle.volume_entry.specs.declared.shape.Shape.{Shape}
 use Rattle.volume_entry.proofs.Moved.{moved_length}
+use Rattle.volume_entry.proofs.NamedUnits.{next_named, granted_named, lock_redirected_named, moved_named, swapped_named}
 
 few : (mode : Mode) → put_quorum mode ≤ data_count mode + 9
 few Ec3P3 = omega arith
@@ -85,10 +89,12 @@ module _ (shape : Shape) (place end : ℕ) (below : place < end) (m : Manager) (
 
   pub sound_after : (item : ManagerRecord) → IsLegal (shape_of shape) m item → IsSoundPart (shape_of shape) (Some end) (written item m)
   sound_after (ManagerRecord.Made homes) legal = absurd legal
-  sound_after (ManagerRecord.Leased time) legal = record { homes = is.homes; moves = is.moves; greatest = is.greatest; version = later m.version is.version; granted = later m.granted is.granted }
+  sound_after (ManagerRecord.Leased time) legal = record { homes = is.homes; moves = is.moves; named = is.named; moves_named = is.moves_named; greatest = is.greatest; version = later m.version is.version; granted = later m.granted is.granted }
   sound_after (ManagerRecord.Locked task number grants) legal = record {
     homes = is.homes;
     moves = let e = length-transfers grants m.homes in let f = few_grants shape (length grants) legal.most in omega (arith, e, f);
+    named = is.named;
+    moves_named = granted_named (shape_of shape) m.homes m.greatest is.homes is.named grants legal.homes;
     greatest = λ i below_. raised_within 0 grants m.greatest i (λ t h. (legal.homes t h).last) (is.greatest i below_);
     version = later m.version is.version;
     granted = let n = legal.next in let h = is.granted in omega (arith, n, h, below);
@@ -96,6 +102,8 @@ module _ (shape : Shape) (place end : ℕ) (below : place < end) (m : Manager) (
   sound_after (ManagerRecord.Retargeted grant) legal = record {
     homes = is.homes;
     moves = redirected_few grant m.lock is.moves;
+    named = is.named;
+    moves_named = lock_redirected_named grant m.lock (next_named (shape_of shape) m.homes m.greatest grant legal.home) is.moves_named;
     greatest = λ i below_. raised_within 0 (grant ∷ []) m.greatest i (λ t h. elim h [ inl e ↦ subst (λ (g : Grant). g.dest.epoch ≤ last_epoch) (sym e) legal.home.last | inr none ↦ absurd none ]) (is.greatest i below_);
     version = later m.version is.version;
     granted = later m.granted is.granted;
@@ -103,13 +111,15 @@ module _ (shape : Shape) (place end : ℕ) (below : place < end) (m : Manager) (
   sound_after ManagerRecord.Swapped legal = record {
     homes = moved_length (transfers_of m.lock) m.homes ∙ is.homes;
     moves = swapped_few m.lock is.moves;
+    named = moved_named 0 (transfers_of m.lock) m.homes is.moves_named is.named;
+    moves_named = swapped_named m.lock is.moves_named;
     greatest = is.greatest;
     version = let h = is.version in omega (arith, h, below);
     granted = later m.granted is.granted;
   }
-  sound_after ManagerRecord.Unlocked legal = record { homes = is.homes; moves = omega arith; greatest = is.greatest; version = later m.version is.version; granted = later m.granted is.granted }
-  sound_after (ManagerRecord.Asked bid) legal = record { homes = is.homes; moves = is.moves; greatest = is.greatest; version = later m.version is.version; granted = later m.granted is.granted }
-  sound_after (ManagerRecord.Committed bid) legal = record { homes = is.homes; moves = is.moves; greatest = is.greatest; version = later m.version is.version; granted = later m.granted is.granted }
+  sound_after ManagerRecord.Unlocked legal = record { homes = is.homes; moves = omega arith; named = is.named; moves_named = λ t i. absurd i; greatest = is.greatest; version = later m.version is.version; granted = later m.granted is.granted }
+  sound_after (ManagerRecord.Asked bid) legal = record { homes = is.homes; moves = is.moves; named = is.named; moves_named = is.moves_named; greatest = is.greatest; version = later m.version is.version; granted = later m.granted is.granted }
+  sound_after (ManagerRecord.Committed bid) legal = record { homes = is.homes; moves = is.moves; named = is.named; moves_named = is.moves_named; greatest = is.greatest; version = later m.version is.version; granted = later m.granted is.granted }
 
 -- ---- logs of one record more
 
@@ -151,3 +161,18 @@ sound_wrote shape true end then_ place m n item room is at behind legal same = a
 sound_wrote shape false end None place m n item room is at behind legal same = absurd behind
 sound_wrote shape false end (Some e) place m n item room is at behind legal same =
     subst (IsSoundPart (shape_of shape) (Some e)) (sym same) (sound_after shape place e behind m (subst (λ o. IsSoundPart (shape_of shape) o m) at is) item legal)
+
+-- an append that was refused leaves a sound part too
+pub sound_refused : (shape : Shape) (is_shut : Bool) (before after : LogView) (m n : Manager) (why : EntryFault) → AppendEnds before after (Err why) → IsSoundPart (shape_of shape) (end_unless is_shut before.end) m → n ≡ m
+    → IsSoundPart (shape_of shape) (end_unless is_shut after.end) n
+sound_refused shape is_shut before after m n why ends is same = subst (IsSoundPart (shape_of shape) (end_unless is_shut after.end)) (sym same) (go why ends) where
+  no_end : (b : Bool) → end_unless b None ≡ None
+  no_end true = refl
+  no_end false = refl
+
+  go : (why : EntryFault) → AppendEnds before after (Err why) → IsSoundPart (shape_of shape) (end_unless is_shut after.end) m
+  go faults.Fault none = subst (λ o. IsSoundPart (shape_of shape) o m) (sym (ap (end_unless is_shut) none ∙ no_end is_shut))
+      (record { homes = is.homes; moves = is.moves; named = is.named; moves_named = is.moves_named; greatest = is.greatest; version = tt; granted = tt })
+  go faults.Memory stays = subst (λ e. IsSoundPart (shape_of shape) (end_unless is_shut e) m) (sym stays) is
+  go faults.Shut none = absurd none
+  go (faults.Spoiled place) none = absurd none

@@ -1,15 +1,17 @@
 -- The book of a volume: its log, and the manager's part that the records of the log leave.
 use Rattle.std.specs.Prelude.{ℕ, ◌≡◌, ◌⊎◌, ◌≤◌, ◌<◌, ◌+◌, Bool, true, false, List, [], ◌∷◌, ◌++◌, length, Option, None, Some, is_none, is_some, Result, Ok, Err, IfSome, IsSome, IsSomeAnd}
-use Rattle.disk_base.specs.Disk.{FileView}
+use Rattle.disk_base.specs.Disk.{FileView, AtEachMoment}
 use Rattle.disk_base.specs.Faults.{Rose}
 use Rattle.gate_log.specs.LogFile.{IsLogOf, end_place, longest_body, longest_file}
 use Rattle.gate_log.specs.GateLog.{LogOver, LogView, HasBodies, shown}
 use Rattle.gate_log.specs.declared.fault.LogFault.{LogFault}
 use Rattle.gate_log.specs.declared.fault.LogFault.TheVariants as logs
-use Rattle.code_mode.specs.VolumeShape.{VolumeShape}
+use Rattle.unit_id.specs.Lists.{IsIn}
+use Rattle.unit_id.specs.Place.{Location}
+use Rattle.code_mode.specs.VolumeShape.{VolumeShape, last_epoch}
 use Rattle.code_mode.specs.declared.mode.Mode.{Mode}
 use Rattle.volume_entry.specs.Laws.{IsWithinLast}
-use Rattle.volume_entry.specs.Manager.{ManagerRecord, Manager, IsLegal, IsLog, transfers_of, written}
+use Rattle.volume_entry.specs.Manager.{ManagerRecord, Manager, Transfer, IsLegal, IsLog, transfers_of, written}
 use Rattle.volume_entry.specs.Spelling.{Spells, summed_part}
 use Rattle.volume_entry.specs.TableParts.{shape_of}
 use Rattle.volume_entry.specs.declared.shape.Shape.{Shape}
@@ -29,11 +31,26 @@ abbrev pub end_unless : Bool → Option ℕ → Option ℕ
 end_unless true end = None
 end_unless false end = end
 
--- What holds of every part that a book has, whatever its file tells: a home for each unit, few moves, epochs that fit, and no more swaps and
--- locks than bytes of the log.
+-- an epoch with which a unit may be named
+pub record IsEpoch (epoch : ℕ) : Type 0 where
+  pub first : 1 ≤ epoch
+  pub last : epoch ≤ last_epoch
+
+-- the units at these homes may be named
+abbrev pub AreNamed : List Location → Type 0
+AreNamed homes = (home : Location) → IsIn home homes → IsEpoch home.epoch
+
+-- the old units and destinations of these transfers may be
+abbrev pub AreMovesNamed : List Transfer → Type 0
+AreMovesNamed transfers = (t : Transfer) → IsIn t transfers → IsEpoch t.old.epoch × IsEpoch t.dest.epoch
+
+-- What holds of every part that a book has, whatever its file tells: a home for each unit, few moves, units that may be named, epochs that fit, and
+-- no more swaps and locks than bytes of the log.
 pub record IsSoundPart (shape : VolumeShape) (end : Option ℕ) (part : Manager) : Type 0 where
   pub homes : length part.homes ≡ shape.total
   pub moves : length (transfers_of part.lock) ≤ 9
+  pub named : AreNamed part.homes
+  pub moves_named : AreMovesNamed (transfers_of part.lock)
   pub greatest : IsWithinLast shape part.greatest
   pub version : IfSome end (λ place. part.version ≤ place)
   pub granted : IfSome end (λ place. part.granted ≤ place)
@@ -118,6 +135,12 @@ IsAppendFault logs.Fault = Unit {0}
 IsAppendFault logs.Memory = Unit {0}
 IsAppendFault _ = ⊥
 
+-- the causes for which a record isn't written
+abbrev pub IsWriteFault : EntryFault → Type 0
+IsWriteFault faults.Fault = Unit {0}
+IsWriteFault faults.Memory = Unit {0}
+IsWriteFault _ = ⊥
+
 -- and what the book answers then
 abbrev pub fault_by_append : LogFault → EntryFault
 fault_by_append logs.Memory = faults.Memory
@@ -127,6 +150,26 @@ fault_by_append _ = faults.Fault
 abbrev pub doubt_after : EntryFault → Option ℕ → Option ℕ → Option ℕ
 doubt_after faults.Fault end doubt = end
 doubt_after _ end doubt = doubt
+
+-- a log that isn't shut ends at most so many bytes behind where it ended before
+abbrev pub GrowsUpTo : ℕ → Option ℕ → Option ℕ → Type 0
+GrowsUpTo most old new = IfSome new (λ end. IsSomeAnd old (λ place. end ≤ place + most))
+
+-- .. and that of a book by a record's 128 bytes
+abbrev pub EndGrows : Option ℕ → Option ℕ → Type 0
+EndGrows old new = GrowsUpTo 128 old new
+
+-- a file that was a log of some bodies is one of the same
+abbrev pub KeepsBodies : FileView → FileView → Type 0
+KeepsBodies old new = (bodies : List (List ℕ)) → IsSomeAnd old.content (λ file. IsLogOf file bodies) → IsSomeAnd new.content (λ file. IsLogOf file bodies)
+
+-- .. and so is what a crash at any moment leaves of it, if it isn't what one might have left before
+abbrev pub CrashKeeps : FileView → FileView → Type 0
+CrashKeeps old new = (bodies : List (List ℕ)) → IsSomeAnd old.content (λ file. IsLogOf file bodies) → AtEachMoment old new (λ image. old.images image ⊎ IsLogOf image bodies)
+
+-- whenever a crash comes while a log is to take a record, its file is one of the bodies that the log had, without the record's spelling or with it
+abbrev pub CrashAppends : ℕ → Mode → ManagerRecord → LogView → FileView → Type 0
+CrashAppends vid mode item old new = (bodies : List (List ℕ)) → HasBodies old bodies → AtEachMoment old.file new (MayHaveRecord vid mode bodies item)
 
 -- a log that isn't shut ends early enough to take any record but that of the making
 abbrev pub HasRoom : Option ℕ → Type 0
@@ -146,6 +189,10 @@ module _ {E : Type 0} (seen : E → FileView) where
   Wrote item part new (Err faults.Fault) = Keeps seen new part true (Some item)
   Wrote item part new (Err faults.Memory) = Keeps seen new part false None
   Wrote item part new (Err _) = ⊥
+
+  -- .. and while a book is to take one
+  abbrev pub CrashLeaves : ManagerRecord → BookOver E → BookOver E → Type 0
+  CrashLeaves item old new = CrashAppends old.vid old.shape.mode item (shown seen old.log) (seen new.log.file)
 
   -- a book was to take a record
   pub record WritesRecord (item : ManagerRecord) (old new : BookOver E) (result : Result (Unit {0}) EntryFault) : Type 0 where

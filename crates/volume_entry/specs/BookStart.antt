@@ -1,5 +1,5 @@
 -- How the records of a book are read.
-use Rattle.std.specs.Prelude.{ℕ, ◌≡◌, ◌<◌, ◌^◌, List, [], ◌∷◌, ◌++◌, Bool, true, false, not, ◌==◌, nat_lt, Option, None, Some, is_some, Result, Ok, Err, IfOk, IsSome, IsSomeAnd}
+use Rattle.std.specs.Prelude.{ℕ, ◌≡◌, ◌<◌, ◌^◌, List, [], ◌∷◌, ◌++◌, Bool, true, false, not, ◌==◌, nat_lt, Option, None, Some, is_some, Result, Ok, Err, IfOk, OnOk, ◌≤◌, IsSome, IsSomeAnd}
 use Rattle.disk_base.specs.Disk.{FileView}
 use Rattle.gate_log.specs.LogFile.{IsLogOf, end_place}
 use Rattle.gate_log.specs.GateLog.{LogView, HasBodies}
@@ -78,19 +78,19 @@ NextAnswers vid shape bodies place old new (Err _) = (part : Manager) → IsRead
 
 module _ {T : Type 0} (part_in : T → Manager) where
   -- all of them
-  abbrev pub AllAnswer : Manager → Result T EntryFault → Type 0
-  AllAnswer part (Ok found) = part_in found ≡ part
-  AllAnswer part (Err faults.Fault) = Unit {0}
-  AllAnswer part (Err faults.Memory) = Unit {0}
-  AllAnswer part (Err (faults.Spoiled place)) = last_start < place
-  AllAnswer part (Err _) = ⊥
+  abbrev pub AllAnswer : ℕ → Manager → Result T EntryFault → Type 0
+  AllAnswer end part (Ok found) = part_in found ≡ part
+  AllAnswer end part (Err faults.Fault) = Unit {0}
+  AllAnswer end part (Err faults.Memory) = Unit {0}
+  AllAnswer end part (Err (faults.Spoiled place)) = (last_start < place) × (place ≡ end)
+  AllAnswer end part (Err _) = ⊥
 
   -- A start over a file that is a log of these bodies, which spell legal records that lead to a part.
   abbrev pub StartAnswers : List (List ℕ) → Manager → LogView → LogView → Result T EntryFault → Type 0
   StartAnswers bodies part old new (Ok found) = (part_in found ≡ part) × HasBodies new bodies
   StartAnswers bodies part old new (Err faults.Memory) = IsSomeAnd new.file.content (λ file. IsLogOf file bodies) × (HasBodies old bodies → HasBodies new bodies)
   StartAnswers bodies part old new (Err faults.Fault) = IsSomeAnd new.file.content (λ file. IsLogOf file bodies)
-  StartAnswers bodies part old new (Err (faults.Spoiled place)) = (last_start < place) × IsSomeAnd new.file.content (λ file. IsLogOf file bodies)
+  StartAnswers bodies part old new (Err (faults.Spoiled place)) = (last_start < place) × (place ≡ end_place bodies) × IsSomeAnd new.file.content (λ file. IsLogOf file bodies)
   StartAnswers bodies part old new (Err _) = ⊥
 
   abbrev pub IsStartOf : ℕ → Shape → LogView → LogView → Result T EntryFault → Type 0
@@ -101,6 +101,16 @@ module _ {T : Type 0} (part_in : T → Manager) where
 abbrev pub IsSoundTable : Shape → Option ℕ → Result Table EntryFault → Type 0
 IsSoundTable shape end (Ok table) = IsSome end × IsSoundPart (shape_of shape) end (part_of table)
 IsSoundTable shape end (Err _) = Unit {0}
+
+-- a log that starts ends early enough
+abbrev pub EndsInTime : {T : Type 0} → Option ℕ → Result T EntryFault → Type 0
+EndsInTime end result = OnOk result (IsSomeAnd end (λ place. place ≤ last_start))
+
+-- a log of bodies that spell legal records is spoiled only at its end, where that is behind the last start
+abbrev pub IsSpoiledAtEnd : {T : Type 0} → ℕ → Shape → FileView → Result T EntryFault → Type 0
+IsSpoiledAtEnd vid shape old (Err (faults.Spoiled place)) = (bodies : List (List ℕ)) (items : List ManagerRecord) (part : Manager) → IsSomeAnd old.content (λ file. IsLogOf file bodies)
+    → AreSpelled vid shape.mode items bodies → IsLog (shape_of shape) items part → (last_start < place) × (place ≡ end_place bodies)
+IsSpoiledAtEnd vid shape old _ = Unit {0}
 
 -- memory stands for every part of a volume with the lock of this one under which nothing was heard
 abbrev pub IsForgetful : VolumeShape → Manager → HeardMemory → Type 0

@@ -1,16 +1,18 @@
 -- The entry of a volume: the manager's part over its log, and what its calls answer and leave.
-use Rattle.std.specs.Prelude.{ℕ, ◌≡◌, ◌≤◌, ◌<◌, ◌+◌, Bool, true, false, List, [], get_or, Option, None, Some, is_some, IfSome, Result, Ok, Err}
+use Rattle.std.specs.Prelude.{ℕ, ◌≡◌, ◌≤◌, ◌<◌, ◌+◌, Bool, true, false, List, [], get_or, Option, None, Some, is_some, IfSome, IsSome, Result, Ok, Err}
 use Rattle.disk_base.specs.Disk.{FileView}
 use Rattle.gate_log.specs.LogFile.{longest_file}
 use Rattle.code_mode.specs.VolumeShape.{VolumeShape}
 use Rattle.volume_entry.specs.Manager.{ManagerRecord, Manager, IsDisk, IsBid, nothing_heard, transfers_of, written, in_doubt, forgetful, settled}
-use Rattle.volume_entry.specs.ManagerStep.{AreTargets, GrantsLease, Locks, Retargets, Swaps, Unlocks, Asks, Commits}
+use Rattle.volume_entry.specs.ManagerStep.{AreTargets, AreAllSettled, GrantsLease, Locks, Retargets, Swaps, Unlocks, Asks, Commits, swap_refusal}
 use Rattle.volume_entry.specs.Reply.{Reply}
 use Rattle.volume_entry.specs.View.{moves_shown}
+use Rattle.volume_entry.specs.ShownView.{view_shown}
 use Rattle.volume_entry.specs.HeardMemory.{HeardMemory, Remembers}
 use Rattle.volume_entry.specs.TableParts.{shape_of}
 use Rattle.volume_entry.specs.Book.{BookOver, Keeps, CountsFault}
 use Rattle.volume_entry.specs.BookStart.{found_part, last_start}
+use Rattle.volume_entry.specs.declared.view.View.{View}
 use Rattle.volume_entry.specs.declared.event.ManagerEvent.{ManagerEvent}
 use Rattle.volume_entry.specs.declared.event.ManagerEvent.TheVariants as events
 use Rattle.volume_entry.specs.declared.event.ManagerReply.{ManagerReply}
@@ -124,6 +126,58 @@ FitsEvent shape (events.Commit bid) = IsBid bid
 abbrev pub HasRoomIfOpen : Option ℕ → Type 0
 HasRoomIfOpen end = IfSome end (λ place. place + 128 ≤ longest_file)
 
+-- the replies that an event may have, whatever the file tells
+abbrev pub MayAnswer : ManagerEvent → Reply → Type 0
+MayAnswer events.Lease (Reply.LeaseTo end) = Unit {0}
+MayAnswer events.Lease (Reply.Locked task) = Unit {0}
+MayAnswer (events.Lock task targets) (Reply.Granted lock moves) = Unit {0}
+MayAnswer (events.Lock task targets) (Reply.Locked other) = Unit {0}
+MayAnswer (events.Lock task targets) (Reply.LeaseRuns end) = Unit {0}
+MayAnswer (events.Lock task targets) Reply.DestBroken = Unit {0}
+MayAnswer (events.Lock task targets) (Reply.DestHeld index) = Unit {0}
+MayAnswer (events.Lock task targets) Reply.EpochSpent = Unit {0}
+MayAnswer (events.Retarget task index disk) (Reply.Granted lock moves) = Unit {0}
+MayAnswer (events.Retarget task index disk) Reply.NotLocked = Unit {0}
+MayAnswer (events.Retarget task index disk) (Reply.OtherTask other) = Unit {0}
+MayAnswer (events.Retarget task index disk) Reply.AlreadySwapped = Unit {0}
+MayAnswer (events.Retarget task index disk) Reply.NotMoved = Unit {0}
+MayAnswer (events.Retarget task index disk) Reply.DestGood = Unit {0}
+MayAnswer (events.Retarget task index disk) Reply.DestBroken = Unit {0}
+MayAnswer (events.Retarget task index disk) (Reply.DestHeld other) = Unit {0}
+MayAnswer (events.Retarget task index disk) Reply.EpochSpent = Unit {0}
+MayAnswer (events.Swap task) Reply.Done = Unit {0}
+MayAnswer (events.Swap task) Reply.NotLocked = Unit {0}
+MayAnswer (events.Swap task) (Reply.OtherTask other) = Unit {0}
+MayAnswer (events.Swap task) Reply.AlreadySwapped = Unit {0}
+MayAnswer (events.Swap task) Reply.DestBroken = Unit {0}
+MayAnswer (events.Swap task) Reply.NotFenced = Unit {0}
+MayAnswer (events.Swap task) (Reply.NotListed have) = Unit {0}
+MayAnswer (events.Swap task) (Reply.NotCopied bid) = Unit {0}
+MayAnswer (events.Unlock task) Reply.Done = Unit {0}
+MayAnswer (events.Unlock task) Reply.NotLocked = Unit {0}
+MayAnswer (events.Unlock task) (Reply.OtherTask other) = Unit {0}
+MayAnswer (events.Unlock task) Reply.NotSwapped = Unit {0}
+MayAnswer (events.Unlock task) Reply.NotReleased = Unit {0}
+MayAnswer (events.Ask bid) Reply.Done = Unit {0}
+MayAnswer (events.Ask bid) Reply.Already = Unit {0}
+MayAnswer (events.Commit bid) Reply.Done = Unit {0}
+MayAnswer (events.Commit bid) Reply.NotAsked = Unit {0}
+MayAnswer (events.Commit bid) Reply.Already = Unit {0}
+MayAnswer (events.Commit bid) (Reply.Locked task) = Unit {0}
+MayAnswer (events.Commit bid) (Reply.TooFewMarks have) = Unit {0}
+MayAnswer event reply = ⊥
+
+-- a refusal of an event is one of them
+abbrev pub MayRefuse : ManagerEvent → Option ManagerReply → Type 0
+MayRefuse event refusal = IfSome refusal (λ reply. (n : Manager) → MayAnswer event (reply_of n reply))
+
+-- a step answers with one of them, says only of a log without an end that it is shut, and of none that it is spoiled
+abbrev pub AnswersAs : ManagerEvent → Option ℕ → Result ManagerReply EntryFault → Type 0
+AnswersAs event end (Ok reply) = (n : Manager) → MayAnswer event (reply_of n reply)
+AnswersAs event end (Err faults.Shut) = end ≡ None
+AnswersAs event end (Err (faults.Spoiled place)) = ⊥
+AnswersAs event end (Err _) = Unit {0}
+
 -- ---- parts of a step
 
 -- a refusal as the code and the protocol say it; it grants nothing
@@ -176,3 +230,31 @@ module _ {E : Type 0} (seen : E → FileView) where
 
   abbrev pub Restarts : EntryOver E → EntryOver E → Result Bool EntryFault → Type 0
   Restarts old new result = (m : Manager) → Stands seen old m → StartsTo m new result
+
+-- ---- a look
+
+module _ {E : Type 0} (seen : E → FileView) where
+  -- Where the log isn't shut, the volume is shown at this time, by the flags of broken disks: what its records say, and so every manager's part for which
+  -- the entry stands.
+  abbrev pub Looks : ℕ → EntryOver E → Result View EntryFault → Type 0
+  Looks time entry (Ok view) =
+      IsSome entry.book.log.end × (view ≡ view_shown entry.book.vid (is_broken entry.broken) time entry.book.part)
+      × ((m : Manager) → Stands seen entry m → (m.is_shut ≡ false) × (view ≡ view_shown entry.book.vid (is_broken entry.broken) time m))
+  Looks time entry (Err faults.Shut) = (entry.book.log.end ≡ None) × ((m : Manager) → Stands seen entry m → m.is_shut ≡ true)
+  Looks time entry (Err _) = ⊥
+
+-- ---- swaps, unlocks and commits
+
+-- what is answered to whichever manager's part book and memory stand for
+abbrev pub RefusesFor : {E : Type 0} → BookOver E → HeardMemory → (Manager → Option Reply) → Option ManagerReply → Type 0
+RefusesFor book heard refusal result = (m : Manager) → book.part ≡ logged m → Remembers (shape_of book.shape).total heard m → RefusesBy result (refusal m)
+
+-- nothing speaks against a swap
+abbrev pub MaySwap : VolumeShape → (ℕ → Bool) → ℕ → Manager → Type 0
+MaySwap shape broken task m = (swap_refusal shape broken task m ≡ None) × AreAllSettled shape broken m
+
+module _ {E : Type 0} (seen : E → FileView) where
+  -- a step is answered at once, or this holds of it
+  abbrev pub Decides : ℕ → ManagerEvent → (Manager → Type 0) → EntryOver E → Option (Result ManagerReply EntryFault) → Type 0
+  Decides time event free entry None = (m : Manager) → Stands seen entry m → (m.is_shut ≡ false) × free m
+  Decides time event free entry (Some result) = EntryCall seen entry entry result × Steps seen time event entry entry result

@@ -17,5 +17,9 @@ pub mod BookStart
 pub mod HeardCalls
 pub mod MarkKeys
 pub mod Entry
+pub mod Granting
 pub mod HeardCounts
 pub mod Shares
+pub mod Sending
+pub mod Making
+pub mod Unsettled

@@ -1,9 +1,10 @@
 //! How a record is written behind those of a log.
 
-ghost use Rattle.std.specs.Prelude.{◌≡◌, ℕ, List};
+ghost use Rattle.std.specs.Prelude.{◌≡◌, ◌+◌, ℕ, List};
+ghost use Rattle.disk_base.specs.Disk.{Lasts};
 ghost use Rattle.gate_log.specs.GateLog.{shown, HasBodies};
 ghost use Rattle.volume_entry.specs.RecordBytes.{record_of, IsShort};
-ghost use Rattle.volume_entry.specs.Book.{CountsFault, IsAppendFault, fault_by_append, item_size, HasRoomFor, AppendEnds, AppendsItem};
+ghost use Rattle.volume_entry.specs.Book.{CountsFault, IsAppendFault, fault_by_append, item_size, HasRoomFor, AppendEnds, AppendsItem, CrashAppends, GrowsUpTo};
 
 use crate::fault::EntryFault;
 use crate::record::LogRecord;
@@ -25,6 +26,9 @@ pub fn append_item<E: Extent>(
     requires room { HasRoomFor (item_size vid mode (record_of item.now)) log.old.end }
     ensures counts { CountsFault (E.seen log.old.file).faults (E.seen log.new.file).faults result }
     ensures ends { AppendEnds (shown E.seen log.old) (shown E.seen log.new) result }
+    ensures lasts { Lasts (E.seen log.old.file) (E.seen log.new.file) }
+    ensures grows { GrowsUpTo (5 + item_size vid mode (record_of item.now)) log.old.end log.new.end }
+    ensures moments { CrashAppends vid mode (record_of item.now) (shown E.seen log.old) (E.seen log.new.file) }
     ensures appends { (bodies : List (List ℕ)) → HasBodies (shown E.seen log.old) bodies → AppendsItem vid mode (record_of item.now) bodies (shown E.seen log.new) result }
 {
     let body = write(alloc, vid, mode, item)?;

@@ -1,13 +1,14 @@
 //! The book of a volume: its log, and the table that the records of the log leave.
 
-ghost use Rattle.std.specs.Prelude.{◌≡◌, true};
+ghost use Rattle.std.specs.Prelude.{◌≡◌, true, IfErr};
+ghost use Rattle.disk_base.specs.Disk.{Lasts};
 ghost use Rattle.volume_entry.specs.Manager.{IsLegal};
 ghost use Rattle.volume_entry.specs.ManagerStep.{lease_refusal, ask_refusal};
 ghost use Rattle.volume_entry.specs.Entry.{RefusesBy};
 ghost use Rattle.volume_entry.specs.RecordBytes.{record_of};
 ghost use Rattle.volume_entry.specs.TableParts.{shape_of};
-ghost use Rattle.volume_entry.specs.Book.{HasRoom, WritesRecord, doubt_after};
-ghost use Rattle.volume_entry.specs.BookStart.{StartsBook, is_behind, ends_differ, shut_after};
+ghost use Rattle.volume_entry.specs.Book.{HasRoom, WritesRecord, doubt_after, EndGrows, CrashKeeps, CrashLeaves, IsWriteFault, KeepsBodies};
+ghost use Rattle.volume_entry.specs.BookStart.{StartsBook, EndsInTime, IsSpoiledAtEnd, is_behind, ends_differ, shut_after};
 
 use crate::appending::append_item;
 use crate::event::ManagerReply;
@@ -130,7 +131,11 @@ impl<E: Extent> Book<E> {
     pub fn write(&mut self, item: &LogRecord) -> Result<(), EntryFault>
         requires legal { IsLegal (shape_of self.old.shape) self.old.part (record_of item.now) }
         requires room { HasRoom self.old.log.end }
-        ensures { WritesRecord E.seen (record_of item.now) self.old self.new result }
+        ensures writes { WritesRecord E.seen (record_of item.now) self.old self.new result }
+        ensures lasts { Lasts (E.seen self.old.log.file) (E.seen self.new.log.file) }
+        ensures grows { EndGrows self.old.log.end self.new.log.end }
+        ensures moments { CrashLeaves E.seen (record_of item.now) self.old self.new }
+        ensures named { IfErr result IsWriteFault }
     {
         let end = self.end();
         let transfers = self.table.prepare(self.alloc, item)?;
@@ -149,7 +154,12 @@ impl<E: Extent> Book<E> {
     /// Starts the log anew and reads all its records into a new table, and answers whether the record in doubt was found,
     /// and a memory in which nothing was heard.
     pub fn start(&mut self) -> Result<(bool, Heard), EntryFault>
-        ensures { StartsBook E.seen self.old self.new result }
+        ensures starts { StartsBook E.seen self.old self.new result }
+        ensures lasts { Lasts (E.seen self.old.log.file) (E.seen self.new.log.file) }
+        ensures bodies { KeepsBodies (E.seen self.old.log.file) (E.seen self.new.log.file) }
+        ensures moments { CrashKeeps (E.seen self.old.log.file) (E.seen self.new.log.file) }
+        ensures last { EndsInTime self.new.log.end result }
+        ensures spoiled { IsSpoiledAtEnd self.old.vid self.old.shape (E.seen self.old.log.file) result }
     {
         let was = self.end();
         match start_all(self.alloc, self.vid, self.shape, &mut self.log) {

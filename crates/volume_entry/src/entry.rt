@@ -1,14 +1,16 @@
 //! The manager's part of one volume over its log.
 
-ghost use Rattle.std.specs.Prelude.{◌≡◌, ◌≤◌, ◌+◌, ℕ, true, None, IsSome, IfErr, OnOk, set};
+ghost use Rattle.std.specs.Prelude.{◌≡◌, ◌≤◌, ◌+◌, ℕ, true, ◌==◌, ◌||◌, None, IsSome, IfSome, IfErr, OnOk, set};
+ghost use Rattle.disk_base.specs.Disk.{Lasts};
 ghost use Rattle.code_mode.specs.VolumeShape.{last_time};
-ghost use Rattle.volume_entry.specs.Book.{HasRoom};
-ghost use Rattle.volume_entry.specs.Manager.{Manager, IsLegal, IsBid};
+ghost use Rattle.volume_entry.specs.Book.{HasRoom, EndGrows, CrashKeeps, CrashLeaves, IsWriteFault, KeepsBodies};
+ghost use Rattle.volume_entry.specs.BookStart.{EndsInTime, IsSpoiledAtEnd};
+ghost use Rattle.volume_entry.specs.Manager.{Manager, ManagerRecord, IsLegal, IsBid};
 ghost use Rattle.volume_entry.specs.ManagerStep.{lease_refusal, ask_refusal};
 ghost use Rattle.volume_entry.specs.RecordBytes.{record_of};
 ghost use Rattle.volume_entry.specs.TableParts.{shape_of};
 ghost use Rattle.volume_entry.specs.HeardMemory.{HasRoom as HasRoomFor};
-ghost use Rattle.volume_entry.specs.Entry.{Stands, EntryCall, HasRoomIfOpen, LeavesHeard, Restarts, Rules, Steps, WritesStep};
+ghost use Rattle.volume_entry.specs.Entry.{AnswersAs, Stands, EntryCall, HasRoomIfOpen, is_broken, LeavesHeard, Restarts, Rules, Steps, WritesStep};
 ghost use Rattle.volume_entry.specs.declared.event.ManagerEvent.TheVariants.{Lease, Ask};
 ghost use Rattle.volume_entry.specs.declared.fault.EntryFault.TheVariants.{Memory};
 
@@ -29,9 +31,9 @@ const LEASE: u64 = 10;
 /// what memory keeps of what was heard, and as which disks are broken. `Stands` says for which manager's part it stands.
 #[derive(Drop)]
 pub struct Entry<E: Extent> {
-    book: Book<E>,
-    heard: Heard,
-    broken: [bool; 65],
+    pub(crate) book: Book<E>,
+    pub(crate) heard: Heard,
+    pub(crate) broken: [bool; 65],
 }
 
 impl<E: Extent> Model for Entry<E> {
@@ -51,7 +53,8 @@ impl<E: Extent> Entry<E> {
     }
 
     /// Starts the log anew, reads all its records, and forgets what was heard. It answers whether the record in doubt was found
-    /// written.
+    /// written. No record comes or goes, and a log that is started ends at 2^39 at most. A crash inside the call leaves a log of
+    /// the same records, if not what one might have left before the call.
     ///
     /// # Errors
     ///
@@ -62,6 +65,11 @@ impl<E: Extent> Entry<E> {
     pub fn start(&mut self) -> Result<bool, EntryFault>
         ensures call { EntryCall E.seen self.old self.new result }
         ensures told { Restarts E.seen self.old self.new result }
+        ensures lasts { Lasts (E.seen self.old.book.log.file) (E.seen self.new.book.log.file) }
+        ensures bodies { KeepsBodies (E.seen self.old.book.log.file) (E.seen self.new.book.log.file) }
+        ensures moments { CrashKeeps (E.seen self.old.book.log.file) (E.seen self.new.book.log.file) }
+        ensures last { EndsInTime self.new.book.log.end result }
+        ensures spoiled { IsSpoiledAtEnd self.old.book.vid self.old.book.shape (E.seen self.old.book.log.file) result }
     {
         match self.book.start() {
             Ok((found, heard)) => {
@@ -72,7 +80,7 @@ impl<E: Extent> Entry<E> {
         }
     }
 
-    /// Gives a lease of ten ticks from now on.
+    /// Gives a lease of ten ticks from now on. As at each step, the log's end moves on by 128 bytes at most.
     ///
     /// # Errors
     ///
@@ -83,6 +91,10 @@ impl<E: Extent> Entry<E> {
         requires room { HasRoomIfOpen self.old.book.log.end }
         ensures call { EntryCall E.seen self.old self.new result }
         ensures steps { Steps E.seen now Lease self.old self.new result }
+        ensures lasts { Lasts (E.seen self.old.book.log.file) (E.seen self.new.book.log.file) }
+        ensures grows { EndGrows self.old.book.log.end self.new.book.log.end }
+        ensures moments { CrashLeaves E.seen (ManagerRecord.Leased (now + 10)) self.old.book self.new.book }
+        ensures kinds { AnswersAs Lease self.old.book.log.end result }
     {
         match self.lease_answer(now) {
             Some(answer) => answer,
@@ -97,6 +109,7 @@ impl<E: Extent> Entry<E> {
     // What a lease answers that isn't given.
     fn lease_answer(&self, now: u64) -> Option<Result<ManagerReply, EntryFault>>
         ensures rules { Rules E.seen now Lease lease_refusal self.now result }
+        ensures kinds { IfSome result (AnswersAs Lease self.now.book.log.end) }
         ensures free { result ≡ None → IsSome self.now.book.log.end × (lease_refusal self.now.book.part ≡ None) }
     {
         if self.book.end().is_none() {
@@ -113,7 +126,11 @@ impl<E: Extent> Entry<E> {
         requires leaves { LeavesHeard (record_of item.now) }
         requires legal { IsLegal (shape_of self.old.book.shape) self.old.book.part (record_of item.now) }
         requires room { HasRoom self.old.book.log.end }
-        ensures { WritesStep E.seen (record_of item.now) self.old self.new result }
+        ensures writes { WritesStep E.seen (record_of item.now) self.old self.new result }
+        ensures lasts { Lasts (E.seen self.old.book.log.file) (E.seen self.new.book.log.file) }
+        ensures grows { EndGrows self.old.book.log.end self.new.book.log.end }
+        ensures moments { CrashLeaves E.seen (record_of item.now) self.old.book self.new.book }
+        ensures named { IfErr result IsWriteFault }
     {
         self.book.write(item)
     }
@@ -128,6 +145,10 @@ impl<E: Extent> Entry<E> {
         requires room { HasRoomIfOpen self.old.book.log.end }
         ensures call { EntryCall E.seen self.old self.new result }
         ensures steps { (time : ℕ) → Steps E.seen time (Ask bid) self.old self.new result }
+        ensures lasts { Lasts (E.seen self.old.book.log.file) (E.seen self.new.book.log.file) }
+        ensures grows { EndGrows self.old.book.log.end self.new.book.log.end }
+        ensures moments { CrashLeaves E.seen (ManagerRecord.Asked bid) self.old.book self.new.book }
+        ensures kinds { AnswersAs (Ask bid) self.old.book.log.end result }
     {
         match self.ask_answer(bid) {
             Some(answer) => answer,
@@ -141,6 +162,7 @@ impl<E: Extent> Entry<E> {
     // What is answered where a blob's deletion isn't noted.
     fn ask_answer(&self, bid: u64) -> Option<Result<ManagerReply, EntryFault>>
         ensures rules { (time : ℕ) → Rules E.seen time (Ask bid) (ask_refusal true bid) self.now result }
+        ensures kinds { IfSome result (AnswersAs (Ask bid) self.now.book.log.end) }
         ensures free { result ≡ None → IsSome self.now.book.log.end × (ask_refusal true bid self.now.book.part ≡ None) }
     {
         if self.book.end().is_none() {
@@ -165,7 +187,8 @@ impl<E: Extent> Entry<E> {
     /// Notes that a disk, counted from 1 to 64, is broken.
     pub fn break_disk(&mut self, disk: u32)
         requires { disk ≤ 64 }
-        ensures { self.new ≡ record self.old { broken = set self.old.broken disk true } }
+        ensures set { self.new ≡ record self.old { broken = set self.old.broken disk true } }
+        ensures each { (other : ℕ) → is_broken self.new.broken other ≡ ((other == disk) || is_broken self.old.broken other) }
     {
         self.broken[disk as usize] = true;
     }

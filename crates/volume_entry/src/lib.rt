@@ -5,28 +5,34 @@
 //! of each step in order, what it writes where none holds, and what hearing an answer does. `specs/Spelling` gives each
 //! record's one spelling in bytes.
 //!
-//! Today the crate has these definitions, the laws below, the records of the log, the table that they leave, the memory of
-//! what was heard, and of the entry its book, its start and two of its steps. `write` gives the spelling of a record and `read`
-//! the record that bytes spell. A `Table` is made by the first body of a log and takes the others one by one, each exactly where
-//! it spells a record that is legal behind those before it. A `Book` is a log with its table: it writes records and starts anew,
-//! and `specs/Book` says for which part of a manager it stands. An `Entry` is a book with what was heard; `specs/Entry` says for
-//! which manager it stands. It gives leases, notes deletes that are asked for, and starts anew. How an entry is made, and its
-//! other steps, aren't written yet.
+//! An `Entry` is the manager's part of one volume over its log. It has a book, which is the log with the table of what its
+//! records say, a memory of what was heard, and which disks are broken. `specs/Entry` says for which manager's part an entry
+//! stands, and each call says of every such part what it answers and what the entry stands for then. A step writes its record
+//! before it is answered; a call on the file that fails shuts the log, until a start reads all records anew and tells whether
+//! the record in doubt was found. `specs/Making` says what a making leaves, `specs/Book` what the log of a book says,
+//! `specs/HeardMemory` what memory has of answers, and `specs/Sending` which requests may be sent.
 //!
-//! Public: `read`, `write`, `LogRecord`, `UnitHome`, `NewHome`, `Shape`, `are_first_homes`, `Table` with `fresh`, `made`,
-//! `is_legal`, `take`, `take_legal`, `take_body` and a call for each kind of record, and `Entry` with `start`, `lease`, `ask`,
-//! `reserve`, `break_disk`, `end` and `into_file`; `ManagerReply`, `EntryFault`, `View` and `LockView`.
+//! Public: `Entry` with `make`, `start`, the steps `lease`, `lock`, `retarget`, `swap`, `unlock`, `ask` and `commit`, further
+//! `reserve`, `hear`, `look`, `may_send`, `break_disk`, `end` and `into_file`; `Shape`, `UnitHome` and `are_first_homes` for its
+//! making; `ManagerEvent`, `ManagerReply`, `EntryFault`, `View` and `LockView`; and the laws of `laws`.
 #![tactic(auto)]
 
 mod appending;
 mod bid_set;
 mod book;
 mod counting;
+#[cfg(test)]
+mod cut_log_tests;
 mod destinations;
 mod entry;
+mod entry_hear;
+mod entry_lock;
+mod entry_make;
+mod entry_swap;
 mod event;
 mod fault;
 mod first_homes;
+mod granting;
 mod heard;
 mod heard_bids;
 mod heard_marks;
@@ -38,17 +44,22 @@ mod held;
 pub mod laws;
 mod legal;
 mod listing;
+mod lock_refusal;
+mod looking;
 mod moving;
 mod reading;
 mod record;
 mod refusing;
 mod replaying;
 mod rereading;
+mod sending;
 mod settling;
 mod shape;
+mod swap_refusal;
 mod table;
 #[cfg(test)]
 mod tests;
+mod unsettled;
 mod view;
 mod writing;
 
@@ -56,9 +67,6 @@ pub use entry::Entry;
 pub use event::{ManagerEvent, ManagerReply};
 pub use fault::EntryFault;
 pub use first_homes::are_first_homes;
-pub use reading::read;
-pub use record::{LogRecord, NewHome, UnitHome};
+pub use record::UnitHome;
 pub use shape::Shape;
-pub use table::Table;
 pub use view::{LockView, View};
-pub use writing::write;

@@ -1,12 +1,13 @@
 //! How a book's log is started and its records are read into a table.
 
 ghost use Rattle.std.specs.Prelude.{◌≡◌, ◌<◌, ◌≤◌, ℕ, List, Some, Ok, IfOk, IfErr, IfSome, IsSome};
-ghost use Rattle.disk_base.specs.Disk.{OnlyReads};
+ghost use Rattle.disk_base.specs.Disk.{Lasts, OnlyReads};
+ghost use Rattle.gate_log.specs.LogFile.{end_place};
 ghost use Rattle.gate_log.specs.GateLog.{shown, HasBodies};
 ghost use Rattle.volume_entry.specs.Manager.{Manager, ManagerRecord, IsLog};
 ghost use Rattle.volume_entry.specs.TableParts.{part_of, shape_of};
-ghost use Rattle.volume_entry.specs.Book.{AreSpelled, CountsFault, IsSoundPart};
-ghost use Rattle.volume_entry.specs.BookStart.{IsStartFault, fault_by_start, IsStartCause, BodiesInOrder, FirstAnswers, NextAnswers, AllAnswer, IsStartOf, IsSoundTable, IsForgetful, last_start};
+ghost use Rattle.volume_entry.specs.Book.{AreSpelled, CountsFault, CrashKeeps, IsSoundPart, KeepsBodies};
+ghost use Rattle.volume_entry.specs.BookStart.{IsStartFault, fault_by_start, IsStartCause, BodiesInOrder, FirstAnswers, NextAnswers, AllAnswer, IsStartOf, IsSoundTable, IsForgetful, EndsInTime};
 
 use crate::fault::EntryFault;
 use crate::heard::Heard;
@@ -28,6 +29,7 @@ fn body_at<E: Extent>(
 ) -> Result<(Bytes, u64), EntryFault>
     requires { IsSome log.old.end }
     ensures counts { CountsFault (E.seen log.old.file).faults (E.seen log.new.file).faults result }
+    ensures lasts { Lasts (E.seen log.old.file) (E.seen log.new.file) }
     ensures reads { OnlyReads (E.seen log.old.file) (E.seen log.new.file) }
     ensures same { log.new.end ≡ log.old.end }
     ensures onward { IfOk result (λ found. (place < found.1) × IfSome log.old.end (λ end. found.1 ≤ end)) }
@@ -52,6 +54,7 @@ fn read_first<E: Extent>(
 ) -> Result<(Table, u64), EntryFault>
     requires { IsSome log.old.end }
     ensures counts { CountsFault (E.seen log.old.file).faults (E.seen log.new.file).faults result }
+    ensures lasts { Lasts (E.seen log.old.file) (E.seen log.new.file) }
     ensures reads { OnlyReads (E.seen log.old.file) (E.seen log.new.file) }
     ensures same { log.new.end ≡ log.old.end }
     ensures sound { IfOk result (λ found. IsSoundPart (shape_of shape) (Some found.1) (part_of found.0) × IfSome log.old.end (λ end. found.1 ≤ end)) }
@@ -79,6 +82,7 @@ fn read_next<E: Extent>(
     requires below { IfSome log.old.end (λ end. place < end) }
     requires sound { IsSoundPart (shape_of shape) (Some place) (part_of table.old) }
     ensures counts { CountsFault (E.seen log.old.file).faults (E.seen log.new.file).faults result }
+    ensures lasts { Lasts (E.seen log.old.file) (E.seen log.new.file) }
     ensures reads { OnlyReads (E.seen log.old.file) (E.seen log.new.file) }
     ensures same { log.new.end ≡ log.old.end }
     ensures onward { IfOk result (λ next. (place < next) × IsSoundPart (shape_of shape) (Some next) (part_of table.new) × IfSome log.old.end (λ end. next ≤ end)) }
@@ -101,11 +105,13 @@ fn read_table<E: Extent>(
 ) -> Result<Table, EntryFault>
     requires { IsSome log.old.end }
     ensures counts { CountsFault (E.seen log.old.file).faults (E.seen log.new.file).faults result }
+    ensures lasts { Lasts (E.seen log.old.file) (E.seen log.new.file) }
     ensures reads { OnlyReads (E.seen log.old.file) (E.seen log.new.file) }
     ensures same { log.new.end ≡ log.old.end }
     ensures sound { IsSoundTable shape log.new.end result }
+    ensures last { EndsInTime log.new.end result }
     ensures named { IfErr result IsStartCause }
-    ensures all { (bodies : List (List ℕ)) → HasBodies (shown E.seen log.old) bodies → (items : List ManagerRecord) (part : Manager) → AreSpelled vid shape.mode items bodies → IsLog (shape_of shape) items part → AllAnswer part_of part result }
+    ensures all { (bodies : List (List ℕ)) → HasBodies (shown E.seen log.old) bodies → (items : List ManagerRecord) (part : Manager) → AreSpelled vid shape.mode items bodies → IsLog (shape_of shape) items part → AllAnswer part_of (end_place bodies) part result }
 {
     let Some(end) = log.end() else {
         unreachable!();
@@ -121,7 +127,7 @@ fn read_table<E: Extent>(
 }
 
 // Why the log of a volume didn't start.
-fn fault_of(fault: LogFault) -> EntryFault
+pub(crate) fn fault_of(fault: LogFault) -> EntryFault
     requires { IsStartFault fault }
     ensures { result ≡ fault_by_start fault }
 {
@@ -142,7 +148,11 @@ pub fn start_table<E: Extent>(
     log: &mut GateLog<E>,
 ) -> Result<Table, EntryFault>
     ensures counts { CountsFault (E.seen log.old.file).faults (E.seen log.new.file).faults result }
+    ensures lasts { Lasts (E.seen log.old.file) (E.seen log.new.file) }
+    ensures bodies { KeepsBodies (E.seen log.old.file) (E.seen log.new.file) }
+    ensures moments { CrashKeeps (E.seen log.old.file) (E.seen log.new.file) }
     ensures sound { IsSoundTable shape log.new.end result }
+    ensures last { EndsInTime log.new.end result }
     ensures named { IfErr result IsStartCause }
     ensures told { IsStartOf part_of vid shape (shown E.seen log.old) (shown E.seen log.new) result }
 {
@@ -154,7 +164,7 @@ pub fn start_table<E: Extent>(
 }
 
 // A memory in which nothing was heard under the lock of a table.
-fn heard_none(alloc: Global, shape: Shape, table: &Table) -> Result<Heard, AllocError>
+pub(crate) fn heard_none(alloc: Global, shape: Shape, table: &Table) -> Result<Heard, AllocError>
     ensures { IfOk result (IsForgetful (shape_of shape) (part_of table.now)) }
 {
     Heard::of(alloc, shape.mode.total(), table.held())
@@ -168,6 +178,10 @@ pub fn start_all<E: Extent>(
     log: &mut GateLog<E>,
 ) -> Result<(Table, Heard), EntryFault>
     ensures counts { CountsFault (E.seen log.old.file).faults (E.seen log.new.file).faults result }
+    ensures lasts { Lasts (E.seen log.old.file) (E.seen log.new.file) }
+    ensures bodies { KeepsBodies (E.seen log.old.file) (E.seen log.new.file) }
+    ensures moments { CrashKeeps (E.seen log.old.file) (E.seen log.new.file) }
+    ensures last { EndsInTime log.new.end result }
     ensures sound { IfOk result (λ found. IsSoundTable shape log.new.end (Ok found.0) × IsForgetful (shape_of shape) (part_of found.0) found.1) }
     ensures named { IfErr result IsStartCause }
     ensures told { IsStartOf (λ found. part_of found.0) vid shape (shown E.seen log.old) (shown E.seen log.new) result }

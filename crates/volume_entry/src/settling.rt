@@ -2,7 +2,7 @@
 
 ghost use Rattle.std.specs.Prelude.{◌≡◌, not, false, true};
 ghost use Rattle.unit_id.specs.Lists.{any, count_below, some_below};
-ghost use Rattle.volume_entry.specs.HeardCounts.{due_by, is_broken, live_at, marked_at, settled_by};
+ghost use Rattle.volume_entry.specs.HeardCounts.{due_by, is_broken, live_at, marked_at, settled_by, unsettled_by};
 ghost use Rattle.volume_entry.specs.HeardMemory.{Remembers, is_live_there, is_marked_there, move_of};
 ghost use Rattle.volume_entry.specs.Benchmark.{is_unsettled};
 ghost use Rattle.volume_entry.specs.Manager.{Manager, is_swapped, transfers_of};
@@ -141,8 +141,9 @@ impl Heard {
         broken: &[bool],
         bid: u64,
     ) -> bool
-        ensures { (m : Manager) → m.homes ≡ homes.now → transfers.now ≡ transfers_of m.lock → is_swapped m.lock ≡ false → Remembers (shape_of shape).total self.now m
+        ensures told { (m : Manager) → m.homes ≡ homes.now → transfers.now ≡ transfers_of m.lock → is_swapped m.lock ≡ false → Remembers (shape_of shape).total self.now m
             → result ≡ is_unsettled (shape_of shape) m.homes (is_broken broken.now) (transfers_of m.lock) m.heard bid }
+        ensures kept { result ≡ unsettled_by (shape_of shape) self.now homes.now broken.now transfers.now bid }
     {
         let share = share_of(shape, &self.listings, homes, broken, bid);
         some_lacks(&self.moves, transfers, bid, share)

@@ -3,7 +3,11 @@
 ghost use Rattle.volume_entry.specs.RecordBytes.{record_of, IsShort};
 
 use crate::laws::records_have_one_spelling;
-use crate::{LogRecord, NewHome, Shape, Table, UnitHome, are_first_homes, read, write};
+use crate::reading::read;
+use crate::record::{LogRecord, NewHome};
+use crate::table::Table;
+use crate::writing::write;
+use crate::{Shape, UnitHome, are_first_homes};
 use code_mode::Mode;
 use std::alloc::Global;
 use std::process::Abort;

@@ -1,6 +1,6 @@
 use Rattle.std.proofs.Common.{◌≡◌, ◌∙◌, sym, ap, subst, rules, ◌<◌, ◌≤◌, Some, Err, arith}
 use Rattle.std.specs.Prelude.{is_some}
-use Rattle.disk_base.specs.Moments.{reads_on}
+use Rattle.disk_base.specs.Moments.{reads_on, lasts_on}
 use Rattle.gate_log.specs.GateLog.{shown}
 use Rattle.gate_log.specs.LogFile.{end_place}
 use Rattle.volume_entry.specs.TableParts.{part_of, shape_of}
@@ -18,6 +18,7 @@ loop-place-init g c =
       sound = c.in_ok-table.ensures.sound.0;
       read = λ bodies items part has spelled log. c.in_ok-table.ensures.first bodies has items part spelled log;
       reads = c.in_ok-table.ensures.reads;
+      lasts = c.in_ok-table.ensures.lasts;
       faults = c.in_ok-table.ensures.counts;
     }
 
@@ -42,7 +43,7 @@ returns-in_err-place-clause-all g c =
     let ends : c.args.log.now.end ≡ Some c.in-Some.end = sym c.end.ensures.end ∙ c.in-Some.is in
     λ bodies has items part spelled log.
     let at : c.in-Some.end ≡ end_place bodies = same_place c.args.log.now.end c.in-Some.end (end_place bodies) ends (ends_behind (shown g.E.Extent.seen c.args.log.now) bodies has) in
-    subst (AllAnswer part_of part) (sym is)
+    subst (AllAnswer part_of (end_place bodies) part) (sym is)
     (all_refused c.args.vid c.args.shape bodies c.loop-place.place (part_of c.loop-place.table) (part_of c.read_next.new.table) part e (i.read bodies items part has spelled log)
     (subst (λ n. c.loop-place.place < n) at c.loop-place-test.true)
     (c.in_err-place.ensures.next bodies (reads_keep (shown g.E.Extent.seen c.args.log.now) (shown g.E.Extent.seen c.loop-place.log) bodies i.started i.reads has)))
@@ -62,6 +63,7 @@ loop-place-preserved g c =
           c.in_ok-place.ensures.next bodies (reads_keep (shown g.E.Extent.seen c.args.log.now) (shown g.E.Extent.seen c.loop-place.log) bodies i.started i.reads has)
           part (i.read bodies items part has spelled log) (subst (λ n. c.loop-place.place < n) at c.loop-place-test.true);
       reads = reads_on _ _ _ i.reads c.in_ok-place.ensures.reads;
+      lasts = lasts_on _ _ _ i.lasts c.in_ok-place.ensures.lasts;
       faults = c.in_ok-place.ensures.counts ∙ i.faults;
     }
 
@@ -84,3 +86,6 @@ returns-clause-all g c =
     let at : c.in-Some.end ≡ end_place bodies = same_place c.args.log.now.end c.in-Some.end (end_place bodies) ends (ends_behind (shown g.E.Extent.seen c.args.log.now) bodies has) in
     read_all c.args.vid c.args.shape bodies c.loop-place.place (part_of c.loop-place.table) part (i.read bodies items part has spelled log)
     (subst (λ n. n ≤ c.loop-place.place) at c.loop-place-test.false)
+
+pub returns-in_err-place-clause-lasts : goal.returns-in_err-place-clause-lasts
+returns-in_err-place-clause-lasts g c = lasts_on _ _ _ c.loop-place.invariant.lasts c.in_err-place.ensures.lasts

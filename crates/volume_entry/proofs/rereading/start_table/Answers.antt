@@ -6,6 +6,7 @@ use Rattle.volume_entry.specs.TableParts.{part_of}
 use Rattle.volume_entry.specs.declared.table.Table.{Table}
 use Rattle.volume_entry.specs.declared.fault.EntryFault.{EntryFault}
 use Rattle.volume_entry.proofs.LogEnds.{reads_keep}
+use Rattle.volume_entry.proofs.BookMoments.{crash_started, crash_read}
 use Rattle.volume_entry.proofs.BookReads.{start_cause, start_counts, refused_told, started_told, started_has}
 use Rattle.volume_entry.proofs.rereading.start_table.Goals as goal
 
@@ -31,3 +32,10 @@ returns-clause-told g c = λ bodies items part told spelled log.
     let has = started_has part_of bodies part before mid (g.E.Extent.seen c.args.log.now.file).content told c.in-Ok.ensures.starts in
     started_told part_of bodies part before after c.read_table.result (reads_keep mid after bodies c.read_table.ensures.same c.read_table.ensures.reads has)
     (c.read_table.ensures.all bodies has items part spelled log)
+
+pub returns-in-Err-clause-moments : goal.returns-in-Err-clause-moments
+returns-in-Err-clause-moments g c = crash_started (shown g.E.Extent.seen c.args.log.now) (shown g.E.Extent.seen c.start.new.self) (Err c.in-Err.fault) c.in-Err.ensures.starts
+
+pub returns-clause-moments : goal.returns-clause-moments
+returns-clause-moments g c =
+    crash_read (shown g.E.Extent.seen c.args.log.now) (shown g.E.Extent.seen c.start.new.self) (g.E.Extent.seen c.read_table.new.log.file) c.in-Ok.ensures.starts c.read_table.ensures.reads
