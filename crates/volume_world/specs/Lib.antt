@@ -32,3 +32,9 @@ pub mod Replying
 pub mod Course
 pub mod Call
 pub mod Progress
+pub mod Stations
+pub mod Serving
+pub mod World
+pub mod ManagerReplies
+pub mod WorldSteps
+pub mod Beginning

@@ -5,6 +5,10 @@
 //! says which moves an entry of a history is. `specs/Invariant` has what every move keeps, a file each part.
 #![tactic(auto)]
 
+mod beginning;
+#[cfg(test)]
+mod beginning_tests;
+mod clock;
 mod copies;
 mod event;
 pub mod examples;
@@ -15,6 +19,10 @@ pub mod laws;
 mod port;
 mod puts;
 mod reply;
+mod replying;
+mod stations;
+#[cfg(test)]
+mod stations_tests;
 #[cfg(test)]
 mod tests;
 mod trace;
