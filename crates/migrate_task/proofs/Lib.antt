@@ -1,4 +1,6 @@
 mod CutLemmas
+mod DoneCalls
+mod LastReplies
 mod TaskLemmas
 mod WorkLemmas
 mod StartLemmas
@@ -6,3 +8,5 @@ mod MergeLemmas
 mod ToldLemmas
 mod GatherLemmas
 mod StandInSteps
+mod SwappedCalls
+mod LockedCalls

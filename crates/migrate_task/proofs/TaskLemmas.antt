@@ -20,14 +20,14 @@ use Rattle.migrate_task.specs.declared.stage.TaskFault.TheVariants as faults
 use Rattle.migrate_task.specs.declared.halt.Halt.{Halt}
 use Rattle.migrate_task.specs.declared.halt.Halt.TheVariants as halts
 use Rattle.migrate_task.specs.AdvanceCall.{TaskStage, TaskNext, task_call, AdvancesBy, Advances}
-use Rattle.migrate_task.specs.TaskParts.{TaskCall, is_cut, told, GoesOn, Makes, ended}
-use Rattle.migrate_task.proofs.CutLemmas.{comes_uncut}
+use Rattle.migrate_task.specs.TaskParts.{TaskCall, is_cut, is_done, told, GoesOn, Makes, ended}
+use Rattle.migrate_task.proofs.CutLemmas.{comes_uncut, comes_undone}
 
 -- what a reply makes of a stage, and what the answer of a part makes of it, are one
 pub goes_told : {T : Type 0} (call : TaskCall) (old new : WayView) (from to : TaskNext) (result : Result T Halt) (then : T → TaskNext) → told result then ≡ to → Proceeds call old new from to
     → GoesOn call old new from result then
-goes_told call old new from to (Err (halts.BrokenOff step_faults.HistoryFull)) then e h = record { to = to; proceeds = h; full = λ uncut. absurd (let both : true ≡ false = ap is_cut e ∙ uncut in cc) }
-goes_told call old new from to (Err (halts.BrokenOff step_faults.Memory)) then e h = record { to = to; proceeds = h }
+goes_told call old new from to (Err (halts.BrokenOff step_faults.HistoryFull)) then e h = record { to = to; proceeds = h; undone = sym (ap is_done e); full = λ uncut. absurd (let both : true ≡ false = ap is_cut e ∙ uncut in cc) }
+goes_told call old new from to (Err (halts.BrokenOff step_faults.Memory)) then e h = record { to = to; proceeds = h; undone = sym (ap is_done e) }
 goes_told call old new from to (Err (halts.Waits why)) then e h = subst (λ next. Proceeds call old new from next) (sym e) h
 goes_told call old new from to (Err halts.EpochSpent) then e h = subst (λ next. Proceeds call old new from next) (sym e) h
 goes_told call old new from to (Err halts.Fault) then e h = subst (λ next. Proceeds call old new from next) (sym e) h
@@ -35,21 +35,21 @@ goes_told call old new from to (Err (halts.Spoiled place)) then e h = subst (λ 
 goes_told call old new from to (Ok given) then e h = subst (λ next. Proceeds call old new from next) (sym e) h
 
 -- .. so too where memory may not suffice
-pub goes_made : {T : Type 0} (call : TaskCall) (old new : WayView) (from to : TaskNext) (result : Result T Halt) (then : T → TaskNext) → Makes result then to → Proceeds call old new from to
+pub goes_made : {T : Type 0} (call : TaskCall) (old new : WayView) (from to : TaskNext) (result : Result T Halt) (then : T → TaskNext) → is_done to ≡ false → Makes result then to → Proceeds call old new from to
     → GoesOn call old new from result then
-goes_made call old new from to (Err (halts.BrokenOff step_faults.HistoryFull)) then e h = record { to = to; proceeds = h; full = λ uncut. absurd (let both : true ≡ false = ap is_cut e ∙ uncut in cc) }
-goes_made call old new from to (Err (halts.BrokenOff step_faults.Memory)) then e h = record { to = to; proceeds = h }
-goes_made call old new from to (Err (halts.Waits why)) then e h = subst (λ next. Proceeds call old new from next) (sym e) h
-goes_made call old new from to (Err halts.EpochSpent) then e h = subst (λ next. Proceeds call old new from next) (sym e) h
-goes_made call old new from to (Err halts.Fault) then e h = subst (λ next. Proceeds call old new from next) (sym e) h
-goes_made call old new from to (Err (halts.Spoiled place)) then e h = subst (λ next. Proceeds call old new from next) (sym e) h
-goes_made call old new from to (Ok given) then e h = subst (λ next. Proceeds call old new from next) (sym e) h
+goes_made call old new from to (Err (halts.BrokenOff step_faults.HistoryFull)) then undone e h = record { to = to; proceeds = h; undone = undone; full = λ uncut. absurd (let both : true ≡ false = ap is_cut e ∙ uncut in cc) }
+goes_made call old new from to (Err (halts.BrokenOff step_faults.Memory)) then undone e h = record { to = to; proceeds = h; undone = undone }
+goes_made call old new from to (Err (halts.Waits why)) then undone e h = subst (λ next. Proceeds call old new from next) (sym e) h
+goes_made call old new from to (Err halts.EpochSpent) then undone e h = subst (λ next. Proceeds call old new from next) (sym e) h
+goes_made call old new from to (Err halts.Fault) then undone e h = subst (λ next. Proceeds call old new from next) (sym e) h
+goes_made call old new from to (Err (halts.Spoiled place)) then undone e h = subst (λ next. Proceeds call old new from next) (sym e) h
+goes_made call old new from to (Ok given) then undone e h = subst (λ next. Proceeds call old new from next) (sym e) h
 
 -- one part behind the other
 pub part_on : {T : Type 0} (call : TaskCall) (a b c : WayView) (from at : TaskNext) (result : Result T Halt) (then : T → TaskNext) → Proceeds call a b from at → GoesOn call b c at result then
     → GoesOn call a c from result then
-part_on call a b c from at (Err (halts.BrokenOff step_faults.HistoryFull)) then h k = record { to = k.to; proceeds = proceeds_on call a b c from at k.to h k.proceeds; full = k.full }
-part_on call a b c from at (Err (halts.BrokenOff step_faults.Memory)) then h k = record { to = k.to; proceeds = proceeds_on call a b c from at k.to h k.proceeds }
+part_on call a b c from at (Err (halts.BrokenOff step_faults.HistoryFull)) then h k = record { to = k.to; proceeds = proceeds_on call a b c from at k.to h k.proceeds; undone = k.undone; full = k.full }
+part_on call a b c from at (Err (halts.BrokenOff step_faults.Memory)) then h k = record { to = k.to; proceeds = proceeds_on call a b c from at k.to h k.proceeds; undone = k.undone }
 part_on call a b c from at (Err (halts.Waits why)) then h k = proceeds_on call a b c from at (told (Err (halts.Waits why)) then) h k
 part_on call a b c from at (Err halts.EpochSpent) then h k = proceeds_on call a b c from at (told (Err halts.EpochSpent) then) h k
 part_on call a b c from at (Err halts.Fault) then h k = proceeds_on call a b c from at (told (Err halts.Fault) then) h k
@@ -73,8 +73,8 @@ fails_on {T} {U} call old new from halt result then after e h =
 
 -- where memory is out, the call has come as far as before
 pub breaks_off : {U : Type 0} (call : TaskCall) (old new : WayView) (from at : TaskNext) (result : Result U Halt) (after : U → TaskNext) → result ≡ Err (halts.BrokenOff step_faults.Memory)
-    → Proceeds call old new from at → GoesOn {T = U} call old new from result after
-breaks_off {U} call old new from at result after e h = subst (λ r. GoesOn {T = U} call old new from r after) (sym e) (record { to = at; proceeds = h })
+    → is_done at ≡ false → Proceeds call old new from at → GoesOn {T = U} call old new from result after
+breaks_off {U} call old new from at result after e undone h = subst (λ r. GoesOn {T = U} call old new from r after) (sym e) (record { to = at; proceeds = h; undone = undone })
 
 -- a step that isn't done
 pub stops : {T : Type 0} (call : TaskCall) (old new : WayView) (stage : TaskStage) (event : Event) (fault : StepFault) (then : T → TaskNext) → event ≡ call.asks stage → StepsBy old new event (Err fault)
@@ -82,9 +82,10 @@ pub stops : {T : Type 0} (call : TaskCall) (old new : WayView) (stage : TaskStag
 stops call old new stage event step_faults.HistoryFull then asked h = record {
   to = Next.Go stage;
   proceeds = step_proceeds call old new stage event (Err step_faults.HistoryFull) asked h;
+  undone = refl;
   full = λ uncut. subst (λ (entries : List Trace). longest_history ≤ length entries) (sym h.goes.entries) h.full;
 }
-stops call old new stage event step_faults.Memory then asked h = record { to = Next.Go stage; proceeds = step_proceeds call old new stage event (Err step_faults.Memory) asked h }
+stops call old new stage event step_faults.Memory then asked h = record { to = Next.Go stage; proceeds = step_proceeds call old new stage event (Err step_faults.Memory) asked h; undone = refl }
 
 pub goes_nowhere : (a : WayView) → Goes a a []
 goes_nowhere a = record {
@@ -136,14 +137,20 @@ advances_whole old new task (Err (halts.BrokenOff step_faults.HistoryFull)) h = 
   parts = h.proceeds.parts;
   goes = h.proceeds.goes;
   fits = h.proceeds.fits;
-  call = comes_front (task_call old.origin.mode task) (Next.Go TaskStage.Looking) h.proceeds.parts h.to h.proceeds.comes;
+  call = (
+    comes_front (task_call old.origin.mode task) (Next.Go TaskStage.Looking) h.proceeds.parts h.to h.proceeds.comes,
+    comes_undone old.origin.mode task (Next.Go TaskStage.Looking) h.proceeds.parts h.to h.undone h.proceeds.comes,
+  );
   full = λ e. h.full (comes_uncut old.origin.mode task (Next.Go TaskStage.Looking) h.proceeds.parts h.to refl h.proceeds.comes);
 }
 advances_whole old new task (Err (halts.BrokenOff step_faults.Memory)) h = record {
   parts = h.proceeds.parts;
   goes = h.proceeds.goes;
   fits = h.proceeds.fits;
-  call = comes_front (task_call old.origin.mode task) (Next.Go TaskStage.Looking) h.proceeds.parts h.to h.proceeds.comes;
+  call = (
+    comes_front (task_call old.origin.mode task) (Next.Go TaskStage.Looking) h.proceeds.parts h.to h.proceeds.comes,
+    comes_undone old.origin.mode task (Next.Go TaskStage.Looking) h.proceeds.parts h.to h.undone h.proceeds.comes,
+  );
   full = λ e. absurd (cc);
 }
 advances_whole old new task (Err (halts.Waits why)) h = answers_whole old new task (Ok (stages.Waits why)) (λ e. absurd (cc)) h (comes_rest (task_call old.origin.mode task) (Next.Go TaskStage.Looking) h.parts (Ok (stages.Waits why)) h.comes)

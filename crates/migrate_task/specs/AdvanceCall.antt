@@ -1,6 +1,7 @@
 -- A call of a task: the lock, the destinations made, the old units fenced, listings, copies, the swap, the old units released, and the unlock.
 use Rattle.std.specs.Prelude.{ℕ, ◌≡◌, ◌≤◌, false, cond, ◌==◌, nat_lt, List, [], ◌∷◌, ◌++◌, length, map, filter, Option, Some, None, Result, Ok, Err}
 use Rattle.std.specs.List.{list_any}
+use Rattle.unit_id.specs.Lists.{IsIn}
 use Rattle.unit_id.specs.declared.homes.Home.{Home}
 use Rattle.unit_id.specs.declared.moves.Move.{Move}
 use Rattle.unit_id.specs.declared.targets.Target.{Target}
@@ -249,10 +250,14 @@ task_after mode task (TaskStage.Unlocking work) reply = after_unlock work reply
 abbrev pub task_call : Mode → Task → Call TaskStage (Result Stage TaskFault)
 task_call mode task = record { asks = task_asks task; after = task_after mode task }
 
--- what a task asks in this stretch, and what it answers: where the history is full or memory is out, it breaks off
+-- no unlock of the task was done
+abbrev pub IsUndone : Task → List Part → Type 0
+IsUndone task parts = IsIn (Part.Asking (events.Unlock task.id) replies.Done) parts → ⊥
+
+-- what a task asks in this stretch, and what it answers: where the history is full or memory is out, it breaks off before all is done
 abbrev pub AdvancesBy : Mode → Task → List Part → Result Stage TaskFault → Type 0
-AdvancesBy mode task parts (Err faults.HistoryFull) = IsFront (task_call mode task) (Next.Go TaskStage.Looking) parts
-AdvancesBy mode task parts (Err faults.Memory) = IsFront (task_call mode task) (Next.Go TaskStage.Looking) parts
+AdvancesBy mode task parts (Err faults.HistoryFull) = IsFront (task_call mode task) (Next.Go TaskStage.Looking) parts × IsUndone task parts
+AdvancesBy mode task parts (Err faults.Memory) = IsFront (task_call mode task) (Next.Go TaskStage.Looking) parts × IsUndone task parts
 AdvancesBy mode task parts result = IsRest (task_call mode task) (Next.Go TaskStage.Looking) parts result
 
 -- One call of a task over a way. Each reply is one that its event may have. The history is said to be full only where it is.

@@ -6,3 +6,5 @@ pub mod Merging
 pub mod Rows
 pub mod GatherParts
 pub mod StandIn
+pub mod Endings
+pub mod Completion

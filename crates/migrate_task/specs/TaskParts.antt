@@ -64,20 +64,27 @@ abbrev pub told : {T : Type 0} → Result T Halt → (T → TaskNext) → TaskNe
 told (Ok given) then = then given
 told (Err halt) then = Next.Over (stop halt)
 
--- the call has come somewhere
+-- the call is over since all is done
+abbrev pub is_done : TaskNext → Bool
+is_done (Next.Over (Ok (stages.Done units))) = true
+is_done next = false
+
+-- the call has come somewhere, and not to where all is done
 pub record ComesBy (call : TaskCall) (old new : WayView) (from : TaskNext) : Type 0 where
   pub to : TaskNext
   pub proceeds : Proceeds call old new from to
+  pub undone : is_done to ≡ false
 
 -- the call is over since the history is full
 abbrev pub is_cut : TaskNext → Bool
 is_cut (Next.Over (Err faults.HistoryFull)) = true
 is_cut next = false
 
--- the call has come somewhere, and unless it was over so, the history takes no more entries there
+-- the call has come somewhere, and not to where all is done; unless it was over since the history is full, the history takes no more entries there
 pub record IsCutOff (call : TaskCall) (old new : WayView) (from : TaskNext) : Type 0 where
   pub to : TaskNext
   pub proceeds : Proceeds call old new from to
+  pub undone : is_done to ≡ false
   pub full : is_cut to ≡ false → longest_history ≤ length new.entries
 
 -- a part of a call, from this point on: it goes on as its answer says, or breaks off

@@ -97,7 +97,8 @@ fn answer(outcome: Result<Homes, Halt>) -> Result<Stage, TaskFault>
 /// # Errors
 ///
 /// `EpochSpent` where an index of the volume has no epochs left. `Fault` and `Spoiled` where the manager's log replied
-/// so. `HistoryFull` only where the volume's history takes no more entries. Behind `Memory` a later call may go on.
+/// so. `HistoryFull` only where the volume's history takes no more entries. Behind `Memory` a later call may go on. No
+/// error comes behind an unlock that was done.
 pub fn advance<P: Port>(
     alloc: Global,
     port: &mut P,

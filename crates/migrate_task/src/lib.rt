@@ -9,6 +9,12 @@
 //! that is written is the one that belongs to its unit, of the payload with which its blob was begun (`specs/Rows`). What
 //! else the parts need and say stands in `specs/TaskParts`, `specs/GatherParts` and `specs/Merging`. `specs/StandIn` is a
 //! volume for the tests.
+//!
+//! What holds of every call stands in `laws`. A call answers that all is done exactly where its unlock was done
+//! (`done_is_unlocked`, `unlocked_is_done`), and the reply to its last event tells every other answer
+//! (`last_replies_tell`, `replies_end_calls`); what these say stands in `specs/Endings`. While nothing fails, a call gets
+//! the lock of a volume that is free for its task, and takes a task whose units are swapped to its end
+//! (`tasks_get_the_lock`, `swapped_tasks_get_done`, by `specs/Completion`).
 #![tactic(auto)]
 
 mod advancing;
@@ -17,6 +23,7 @@ mod copying;
 mod course;
 mod gathering;
 mod halt;
+pub mod laws;
 mod listing;
 mod locking;
 mod merging;

@@ -1,4 +1,4 @@
-use Rattle.std.proofs.Common.{List, Ok, sym, ◌∙◌, subst, rules}
+use Rattle.std.proofs.Common.{List, Ok, sym, ◌∙◌, subst, refl, rules}
 use Rattle.volume_world.specs.Call.{Next}
 use Rattle.migrate_task.specs.declared.work.Journey.{Journey}
 use Rattle.migrate_task.specs.declared.stage.Stage.TheVariants as stages
@@ -10,7 +10,7 @@ use Rattle.migrate_task.proofs.advancing.give_free.Goals as goal
 pub returns-in_err-units-clause-goes : goal.returns-in_err-units-clause-goes
 returns-in_err-units-clause-goes g c = λ mode.
     let from = Next.Go (releasing (work_of c.args.work.now) c.args.work.now.journeys.items) in
-    breaks_off (task_call mode c.args.task.now) _ _ from from c.from_residual.result (λ units. Next.Over (Ok (stages.Done units))) (search rules) (proceeds_nowhere (task_call mode c.args.task.now) _ from)
+    breaks_off (task_call mode c.args.task.now) _ _ from from c.from_residual.result (λ units. Next.Over (Ok (stages.Done units))) (search rules) refl (proceeds_nowhere (task_call mode c.args.task.now) _ from)
 
 pub finish-requires-clause-units : goal.finish-requires-clause-units
 finish-requires-clause-units g c =

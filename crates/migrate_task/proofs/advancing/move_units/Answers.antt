@@ -10,6 +10,7 @@ use Rattle.migrate_task.specs.Copies.{next_errand}
 use Rattle.migrate_task.specs.AdvanceCall.{TaskStage, task_call, creating, copying}
 use Rattle.migrate_task.specs.TaskParts.{IsWorkOn, work_of}
 use Rattle.migrate_task.specs.GatherParts.{AreErrands, coder_shape}
+use Rattle.migrate_task.proofs.CutLemmas.{end_done, copying_open}
 use Rattle.migrate_task.proofs.TaskLemmas.{fails_on, breaks_off, part_on}
 use Rattle.migrate_task.proofs.advancing.move_units.Goals as goal
 
@@ -26,7 +27,7 @@ returns-in_err-left-clause-goes g c = λ mode.
     let w = work_of c.list_all.new.work in
     let heard = c.in_ok-heard.heard in
     breaks_off (task_call mode c.args.task.now) _ _ (creating was was.journeys) (copying w (next_errand w None (errands w heard.dests.items heard.units.items))) c.from_residual-in_err-left.result
-    (λ units. Next.Over (Ok (stages.Done units))) (search rules) (c.in_ok-heard.ensures.goes mode c.args.task.now)
+    (λ units. Next.Over (Ok (stages.Done units))) (search rules) (end_done (copying w (next_errand w None (errands w heard.dests.items heard.units.items))) (copying_open w (next_errand w None (errands w heard.dests.items heard.units.items)))) (c.in_ok-heard.ensures.goes mode c.args.task.now)
 
 pub run_all-requires-clause-coder : goal.run_all-requires-clause-coder
 run_all-requires-clause-coder g c = c.requires.coder ∙ ap (λ (o : Origin). coder_shape o.mode) (sym c.in_ok-heard.ensures.origin)

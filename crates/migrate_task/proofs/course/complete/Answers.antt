@@ -1,4 +1,4 @@
-use Rattle.std.proofs.Common.{◌≡◌, Ok, List, sym, ◌∙◌, ap, subst, rules}
+use Rattle.std.proofs.Common.{◌≡◌, Ok, List, sym, ◌∙◌, ap, subst, refl, rules}
 use Rattle.volume_world.specs.Way.{Origin}
 use Rattle.volume_world.specs.Call.{Next}
 use Rattle.migrate_task.specs.declared.work.Journey.{Journey}
@@ -29,7 +29,7 @@ pub returns-in_err-units-clause-goes : goal.returns-in_err-units-clause-goes
 returns-in_err-units-clause-goes g c = λ mode.
     let w = work_of c.args.work.now in
     breaks_off (task_call mode c.args.task.now) _ _ (Next.Go (TaskStage.Swapping w)) (Next.Go (releasing w (with_old_units w.journeys))) c.from_residual-in_err-units.result
-    (λ given. Next.Over (Ok (stages.Done given))) (search rules) (c.in_ok-swap.ensures.goes mode)
+    (λ given. Next.Over (Ok (stages.Done given))) (search rules) refl (c.in_ok-swap.ensures.goes mode)
 
 pub returns-clause-goes : goal.returns-clause-goes
 returns-clause-goes g c = λ mode.

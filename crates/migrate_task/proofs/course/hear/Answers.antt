@@ -9,6 +9,7 @@ use Rattle.migrate_task.specs.Work.{unbroken, errands}
 use Rattle.migrate_task.specs.Copies.{next_errand}
 use Rattle.migrate_task.specs.AdvanceCall.{task_call, listing_dests, listing_units, copying}
 use Rattle.migrate_task.specs.TaskParts.{AreJourneys, AreUnits, GoesOn, work_of}
+use Rattle.migrate_task.proofs.CutLemmas.{end_done, dests_open}
 use Rattle.migrate_task.proofs.TaskLemmas.{fails_on, breaks_off, part_on, goes_told}
 use Rattle.migrate_task.proofs.WorkLemmas.{unbroken_are}
 use Rattle.migrate_task.proofs.course.hear.Goals as goal
@@ -39,7 +40,7 @@ returns-in_err-homes-clause-goes g c = λ mode task.
     subst (λ (js : List Journey). Proceeds (task_call mode task) (g.P.Port.seen c.args.port.now) (g.P.Port.seen c.list_dests.new.port) (listing_dests w [] js) (listing_dests w dests [])) c.as_slice.ensures.value
     (c.in_ok-dests.ensures.goes mode task w refl) in
     breaks_off (task_call mode task) _ _ (listing_dests w [] w.journeys) (listing_dests w dests []) c.from_residual-in_err-homes.result
-    (λ heard. copying w (next_errand w None (errands w heard.dests.items heard.units.items))) (search rules) first
+    (λ heard. copying w (next_errand w None (errands w heard.dests.items heard.units.items))) (search rules) (end_done (listing_dests w dests []) (dests_open w dests [])) first
 
 pub returns-in_err-units-clause-goes : goal.returns-in_err-units-clause-goes
 unfolding listing_dests

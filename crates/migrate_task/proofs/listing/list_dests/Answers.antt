@@ -3,6 +3,7 @@ use Rattle.volume_world.specs.Progress.{Proceeds}
 use Rattle.migrate_task.specs.declared.listing.Listing.{Listing}
 use Rattle.migrate_task.specs.AdvanceCall.{task_call, listing_dests}
 use Rattle.migrate_task.specs.TaskParts.{with_heard}
+use Rattle.migrate_task.proofs.CutLemmas.{end_done, dests_open}
 use Rattle.migrate_task.proofs.TaskLemmas.{proceeds_nowhere, fails_on, breaks_off, next_part, all_parts}
 use Rattle.migrate_task.proofs.WorkLemmas.{dest_there}
 use Rattle.migrate_task.proofs.listing.list_dests.Goals as goal
@@ -36,7 +37,7 @@ returns-in_err-add-clause-goes g c = λ mode task work same.
     let from = listing_dests work [] c.args.journeys.now in
     let left = drop (c.journeys.journey-index + 1) c.args.journeys.now in
     let listing = c.in_ok-listing.listing in
-    breaks_off (task_call mode task) _ _ from (listing_dests work (with_heard c.journeys.dests.items listing) left) c.from_residual-in_err-add.result (λ dests. listing_dests work dests.items []) (search rules)
+    breaks_off (task_call mode task) _ _ from (listing_dests work (with_heard c.journeys.dests.items listing) left) c.from_residual-in_err-add.result (λ dests. listing_dests work dests.items []) (search rules) (end_done (listing_dests work (with_heard c.journeys.dests.items listing) left) (dests_open work (with_heard c.journeys.dests.items listing) left))
     (next_part (task_call mode task) _ _ _ from (listing_dests work c.journeys.dests.items) c.args.journeys.now c.journeys.journey-index c.journey-item.result (Ok listing)
     (λ listing. listing_dests work (with_heard c.journeys.dests.items listing) left)
     c.journeys-test.true c.journey-item.is (c.journeys.invariant.gone mode task work same) (c.in_ok-listing.ensures.goes mode task work c.journeys.dests.items left same))

@@ -3,6 +3,7 @@ use Rattle.volume_world.specs.Progress.{Proceeds}
 use Rattle.migrate_task.specs.declared.listing.Listing.{Listing}
 use Rattle.migrate_task.specs.AdvanceCall.{task_call, listing_units}
 use Rattle.migrate_task.specs.TaskParts.{with_heard}
+use Rattle.migrate_task.proofs.CutLemmas.{end_done, units_open}
 use Rattle.migrate_task.proofs.TaskLemmas.{proceeds_nowhere, fails_on, breaks_off, next_part, all_parts}
 use Rattle.migrate_task.proofs.WorkLemmas.{unit_there}
 use Rattle.migrate_task.proofs.listing.list_units.Goals as goal
@@ -36,7 +37,7 @@ returns-in_err-add-clause-goes g c = λ mode task work dests same.
     let from = listing_units work dests [] c.args.homes.now in
     let left = drop (c.homes.home-index + 1) c.args.homes.now in
     let listing = c.in_ok-listing.listing in
-    breaks_off (task_call mode task) _ _ from (listing_units work dests (with_heard c.homes.heard.items listing) left) c.from_residual-in_err-add.result (λ heard. listing_units work dests heard.items []) (search rules)
+    breaks_off (task_call mode task) _ _ from (listing_units work dests (with_heard c.homes.heard.items listing) left) c.from_residual-in_err-add.result (λ heard. listing_units work dests heard.items []) (search rules) (end_done (listing_units work dests (with_heard c.homes.heard.items listing) left) (units_open work dests (with_heard c.homes.heard.items listing) left))
     (next_part (task_call mode task) _ _ _ from (listing_units work dests c.homes.heard.items) c.args.homes.now c.homes.home-index c.home-item.result (Ok listing)
     (λ listing. listing_units work dests (with_heard c.homes.heard.items listing) left)
     c.homes-test.true c.home-item.is (c.homes.invariant.gone mode task work dests same) (c.in_ok-listing.ensures.goes mode task work dests c.homes.heard.items left same))

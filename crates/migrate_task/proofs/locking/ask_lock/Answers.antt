@@ -1,4 +1,4 @@
-use Rattle.std.proofs.Common.{ap, rules}
+use Rattle.std.proofs.Common.{ap, refl, rules}
 use Rattle.volume_world.specs.declared.event.Event.TheVariants as events
 use Rattle.volume_world.specs.Call.{Next}
 use Rattle.migrate_task.specs.AdvanceCall.{TaskStage, task_call, task_after, after_lock}
@@ -14,7 +14,7 @@ pub returns-in_err-targets-clause-goes : goal.returns-in_err-targets-clause-goes
 returns-in_err-targets-clause-goes g c = λ mode homes.
     let call = task_call mode c.args.task.now in
     let at = Next.Go (TaskStage.Locking homes) in
-    breaks_off call _ _ at at c.from_residual.result (λ grant. granted mode c.args.task.now homes grant.lock grant.moves) (search rules) (proceeds_nowhere call _ at)
+    breaks_off call _ _ at at c.from_residual.result (λ grant. granted mode c.args.task.now homes grant.lock grant.moves) (search rules) refl (proceeds_nowhere call _ at)
 
 pub returns-in_err-reply-clause-goes : goal.returns-in_err-reply-clause-goes
 returns-in_err-reply-clause-goes g c = λ mode homes.

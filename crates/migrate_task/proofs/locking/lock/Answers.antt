@@ -3,9 +3,10 @@ use Rattle.code_mode.specs.declared.mode.Mode.{Mode}
 use Rattle.volume_world.specs.Way.{Origin}
 use Rattle.volume_world.specs.Call.{Next}
 use Rattle.volume_world.specs.Progress.{Proceeds}
-use Rattle.migrate_task.specs.Work.{Work}
+use Rattle.migrate_task.specs.Work.{Work, journeys_to}
 use Rattle.migrate_task.specs.AdvanceCall.{TaskStage, task_call, creating}
 use Rattle.migrate_task.specs.TaskParts.{granted, work_of, work_to, IsWorkOn}
+use Rattle.migrate_task.proofs.CutLemmas.{end_done, creating_open}
 use Rattle.migrate_task.proofs.TaskLemmas.{fails_on, breaks_off}
 use Rattle.migrate_task.proofs.WorkLemmas.{work_on_to}
 use Rattle.migrate_task.proofs.locking.lock.Goals as goal
@@ -24,7 +25,8 @@ pub returns-in_err-work-clause-goes : goal.returns-in_err-work-clause-goes
 returns-in_err-work-clause-goes g c =
     let mode = (g.P.Port.seen c.args.port.now).origin.mode in
     breaks_off (task_call mode c.args.task.now) _ _ (Next.Go (TaskStage.Locking c.args.homes.now)) (granted mode c.args.task.now c.args.homes.now c.in_ok-grant.grant.lock c.in_ok-grant.grant.moves)
-    c.from_residual-in_err-work.result (λ work. creating (work_of work) work.journeys.items) (search rules) (c.in_ok-grant.ensures.goes mode c.args.homes.now)
+    c.from_residual-in_err-work.result (λ work. creating (work_of work) work.journeys.items) (search rules) (end_done (granted mode c.args.task.now c.args.homes.now c.in_ok-grant.grant.lock c.in_ok-grant.grant.moves)
+    (creating_open (work_to mode c.args.task.now c.args.homes.now c.in_ok-grant.grant.lock c.in_ok-grant.grant.moves) (journeys_to c.args.homes.now c.in_ok-grant.grant.moves))) (c.in_ok-grant.ensures.goes mode c.args.homes.now)
 
 pub returns-clause-goes : goal.returns-clause-goes
 returns-clause-goes g c =

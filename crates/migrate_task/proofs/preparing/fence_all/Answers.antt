@@ -3,6 +3,7 @@ use Rattle.migrate_task.specs.declared.work.Journey.{Journey}
 use Rattle.migrate_task.specs.Work.{with_old_units}
 use Rattle.migrate_task.specs.AdvanceCall.{task_call, fencing}
 use Rattle.migrate_task.specs.TaskParts.{AreJourneys, GoesOn, work_of}
+use Rattle.migrate_task.proofs.CutLemmas.{end_done, fencing_open}
 use Rattle.migrate_task.proofs.TaskLemmas.{proceeds_nowhere, breaks_off}
 use Rattle.migrate_task.proofs.WorkLemmas.{old_units_are}
 use Rattle.migrate_task.proofs.preparing.fence_all.Goals as goal
@@ -10,7 +11,7 @@ use Rattle.migrate_task.proofs.preparing.fence_all.Goals as goal
 pub returns-in_err-units-clause-goes : goal.returns-in_err-units-clause-goes
 returns-in_err-units-clause-goes g c = λ mode task.
     let at = fencing (work_of c.args.work.now) (with_old_units c.args.work.now.journeys.items) in
-    breaks_off {U = Unit {0}} (task_call mode task) _ _ at at c.from_residual.result (λ _. fencing (work_of c.args.work.now) []) (search rules) (proceeds_nowhere (task_call mode task) _ at)
+    breaks_off {U = Unit {0}} (task_call mode task) _ _ at at c.from_residual.result (λ _. fencing (work_of c.args.work.now) []) (search rules) (end_done at (fencing_open (work_of c.args.work.now) (with_old_units c.args.work.now.journeys.items))) (proceeds_nowhere (task_call mode task) _ at)
 
 pub fence_each-requires-clause-units : goal.fence_each-requires-clause-units
 fence_each-requires-clause-units g c =

@@ -1,4 +1,4 @@
-use Rattle.std.proofs.Common.{◌≡◌, ◌+◌, ◌<◌, ℕ, Err, sym, ◌∙◌, ap, subst, arith, rules}
+use Rattle.std.proofs.Common.{◌≡◌, ◌+◌, ◌<◌, ℕ, Err, refl, sym, ◌∙◌, ap, subst, arith, rules}
 use Rattle.code_mode.specs.declared.mode.Mode.{Mode}
 use Rattle.code_mode.specs.Mode.{data_count, total_count}
 use Rattle.rs_code.specs.Shape.{Shape}
@@ -11,6 +11,7 @@ use Rattle.migrate_task.specs.AdvanceCall.{TaskNext, task_call, copying}
 use Rattle.migrate_task.specs.TaskParts.{AreUnits, GoesOn, work_of}
 use Rattle.migrate_task.specs.Rows.{AreShardsRight}
 use Rattle.migrate_task.specs.GatherParts.{none_gathered, AreFrom, IsGathered, rebuilding, writing}
+use Rattle.migrate_task.proofs.CutLemmas.{end_done, copying_open}
 use Rattle.migrate_task.proofs.TaskLemmas.{proceeds_nowhere, fails_on, breaks_off}
 use Rattle.migrate_task.proofs.GatherLemmas.{first_gathered, first_right, others_are, others_from, rebuilt_row, written_on}
 use Rattle.migrate_task.proofs.rebuilding.gather.Goals as goal
@@ -20,7 +21,7 @@ returns-in_err-others-clause-goes g c = λ mode task left.
     let w = work_of c.args.work.now in
     let e = c.args.errand.now in
     let from = copying w (reading c.args.known e left (none_gathered c.args.work.now.mode c.args.unheard) (others_than e.journey.index c.args.work.now.homes.items)) in
-    breaks_off (task_call mode task) _ _ from from c.from_residual.result (writing w e left) (search rules) (proceeds_nowhere (task_call mode task) _ from)
+    breaks_off (task_call mode task) _ _ from from c.from_residual.result (writing w e left) (search rules) (end_done from (copying_open w (reading c.args.known e left (none_gathered c.args.work.now.mode c.args.unheard) (others_than e.journey.index c.args.work.now.homes.items)))) (proceeds_nowhere (task_call mode task) _ from)
 
 pub read_others-requires-clause-units : goal.read_others-requires-clause-units
 read_others-requires-clause-units g c =
@@ -85,7 +86,7 @@ returns-in_err-bytes-clause-goes g c = λ mode task left.
     let from = copying w (reading c.args.known e left (none_gathered c.args.work.now.mode c.args.unheard) (others_than e.journey.index c.args.work.now.homes.items)) in
     let same : copying w (reading c.args.known e left c.nothing-gathered.result c.as_slice-2.result.now) ≡ from = λ i. copying w (reading c.args.known e left (c.nothing-gathered.ensures i) (is i)) in
     let to = rebuilding w e left c.read_others.new.gathered c.in_ok-size.size in
-    breaks_off (task_call mode task) _ _ from to c.from_residual-in_err-bytes.result (writing w e left) (search rules)
+    breaks_off (task_call mode task) _ _ from to c.from_residual-in_err-bytes.result (writing w e left) (search rules) refl
     (subst (λ (next : TaskNext). Proceeds (task_call mode task) (g.P.Port.seen c.args.port.now) (g.P.Port.seen c.read_others.new.port) next to) same (c.in_ok-size.ensures.goes mode task left))
 
 pub returns-clause-goes : goal.returns-clause-goes

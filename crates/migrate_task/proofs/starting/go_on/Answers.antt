@@ -5,6 +5,7 @@ use Rattle.volume_world.specs.Replying.{AreMovesEach}
 use Rattle.volume_world.specs.Progress.{Proceeds}
 use Rattle.migrate_task.specs.AdvanceCall.{TaskNext, task_call, creating, retargeting}
 use Rattle.migrate_task.specs.TaskParts.{GoesOn, IsWorkOn, own_lock, work_of, work_to}
+use Rattle.migrate_task.proofs.CutLemmas.{end_done, own_open}
 use Rattle.migrate_task.proofs.TaskLemmas.{proceeds_nowhere, fails_on, breaks_off}
 use Rattle.migrate_task.proofs.WorkLemmas.{work_on_to, some_moves_are}
 use Rattle.migrate_task.proofs.StartLemmas.{open_lock}
@@ -18,14 +19,14 @@ returns-in_err-work-clause-goes g c =
     let a = g.P.Port.seen c.args.port.now in
     let call = task_call a.origin.mode c.args.task.now in
     let from = own_lock a.origin.mode c.args.task.now c.args.homes.now c.args.held.now in
-    breaks_off call a a from from c.from_residual.result (λ work. creating (work_of work) work.journeys.items) (search rules) (proceeds_nowhere call a from)
+    breaks_off call a a from from c.from_residual.result (λ work. creating (work_of work) work.journeys.items) (search rules) (end_done from (own_open a.origin.mode c.args.task.now c.args.homes.now c.args.held.now)) (proceeds_nowhere call a from)
 
 pub returns-in_err-broken-clause-goes : goal.returns-in_err-broken-clause-goes
 returns-in_err-broken-clause-goes g c =
     let a = g.P.Port.seen c.args.port.now in
     let call = task_call a.origin.mode c.args.task.now in
     let from = own_lock a.origin.mode c.args.task.now c.args.homes.now c.args.held.now in
-    breaks_off call a a from from c.from_residual-in_err-broken.result (λ work. creating (work_of work) work.journeys.items) (search rules) (proceeds_nowhere call a from)
+    breaks_off call a a from from c.from_residual-in_err-broken.result (λ work. creating (work_of work) work.journeys.items) (search rules) (end_done from (own_open a.origin.mode c.args.task.now c.args.homes.now c.args.held.now)) (proceeds_nowhere call a from)
 
 pub retarget_all-requires-clause-work : goal.retarget_all-requires-clause-work
 retarget_all-requires-clause-work g c =

@@ -5,6 +5,7 @@ use Rattle.volume_world.specs.Progress.{Proceeds}
 use Rattle.migrate_task.specs.Work.{journeys_from}
 use Rattle.migrate_task.specs.AdvanceCall.{TaskNext, task_call, releasing}
 use Rattle.migrate_task.specs.TaskParts.{IsWorkOn, own_lock, starting, work_of}
+use Rattle.migrate_task.proofs.CutLemmas.{end_done, own_open}
 use Rattle.migrate_task.proofs.TaskLemmas.{proceeds_nowhere, breaks_off}
 use Rattle.migrate_task.proofs.WorkLemmas.{work_on_from}
 use Rattle.migrate_task.proofs.StartLemmas.{swapped_lock}
@@ -18,7 +19,7 @@ returns-in_err-work-clause-goes g c =
     let a = g.P.Port.seen c.args.port.now in
     let call = task_call a.origin.mode c.args.task.now in
     let from = own_lock a.origin.mode c.args.task.now c.args.homes.now c.args.held.now in
-    breaks_off call a a from from c.from_residual.result starting (search rules) (proceeds_nowhere call a from)
+    breaks_off call a a from from c.from_residual.result starting (search rules) (end_done from (own_open a.origin.mode c.args.task.now c.args.homes.now c.args.held.now)) (proceeds_nowhere call a from)
 
 pub returns-then-held-clause-goes : goal.returns-then-held-clause-goes
 returns-then-held-clause-goes g c =
