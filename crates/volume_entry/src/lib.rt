@@ -29,6 +29,8 @@ mod entry_hear;
 mod entry_lock;
 mod entry_make;
 mod entry_swap;
+#[cfg(test)]
+mod entry_tests;
 mod event;
 mod fault;
 mod first_homes;
