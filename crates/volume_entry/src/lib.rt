@@ -28,6 +28,10 @@ mod entry;
 mod entry_hear;
 mod entry_lock;
 mod entry_make;
+#[cfg(test)]
+mod entry_moves_tests;
+#[cfg(test)]
+mod entry_rows_tests;
 mod entry_swap;
 #[cfg(test)]
 mod entry_tests;
