@@ -227,4 +227,5 @@ takes_back old new name file sets count = record {
   never_falls = omega (arith, count);
   told = refl;
   quiet = λ quiet. absurd (cc quiet);
+  quiet_before = λ quiet. quiet;
 }

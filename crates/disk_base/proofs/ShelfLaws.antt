@@ -239,6 +239,9 @@ removes (Err Memory) old new name back counts sets same = absurd counts
 pub quiet_together : (old file new : Plan) → new ≡ record old { faults = added old.faults file.faults } → is_quiet old ≡ true → is_quiet file ≡ true → is_quiet new ≡ true
 quiet_together old file new is quiet quiet_file = grind (arith, common_steps)
 
+quiet_before : (old file new : Plan) → new ≡ record old { faults = added old.faults file.faults } → is_quiet new ≡ true → is_quiet old ≡ true
+quiet_before old file new is quiet = grind (arith, common_steps)
+
 pub takes_back : (old new : ShelfState) (name : ℕ) (file : FileState) → Sets name (Some (Some file)) old.slots new.slots → new.plan ≡ record old.plan { faults = added old.plan.faults file.plan.faults } → old.plan.faults ≤ new.plan.faults
     → TakesBack view_of name file (shelf_view view_of old) (shelf_view view_of new)
 takes_back old new name file sets plan never_falls =
@@ -252,4 +255,5 @@ takes_back old new name file sets plan never_falls =
       never_falls = never_falls;
       told = refl;
       quiet = quiet_together old.plan file.plan new.plan plan;
+      quiet_before = quiet_before old.plan file.plan new.plan plan;
     }

@@ -162,3 +162,5 @@ pub record TakesBack {F : Type 0} (seen : F → FileView) (name : ℕ) (file : F
   pub never_falls : old.faults ≤ new.faults
   pub told : new.is_told ≡ old.is_told
   pub quiet : old.is_quiet ≡ true → (seen file).is_quiet ≡ true → new.is_quiet ≡ true
+  -- a shelf that is quiet once it took a file back was quiet before
+  pub quiet_before : new.is_quiet ≡ true → old.is_quiet ≡ true
