@@ -2,28 +2,30 @@
 use Rattle.std.proofs.Common.{◌≡◌, ◌∙◌, sym, ap, refl, subst, ℕ, ◌≤◌, ◌<◌, Bool, true, false, Option, None, Some, Result, Ok, Err, ◌⊎◌, inl, inr, nat_lt, arith}
 use Rattle.std.specs.Prelude.{is_some, ◌||◌}
 use Rattle.std.proofs.lemmas.Bool.Decides.{nat_tests}
-use Rattle.unit_id.specs.UnitName.{Name, IsName}
+use Rattle.unit_id.specs.UnitName.{Name, IsName, packed}
 use Rattle.unit_id.specs.Place.{Place}
 use Rattle.unit_id.specs.Messages.{place_at, request_of, answer_of, vid_of}
 use Rattle.unit_id.specs.Request.{Answer, place_of}
 use Rattle.unit_id.specs.declared.request.Request as sent
+use Rattle.unit_id.specs.declared.request.Request.TheVariants as requests
 use Rattle.unit_id.specs.declared.answer.Answer as answered
 use Rattle.unit_id.specs.declared.answer.Answer.TheVariants as answers
 use Rattle.unit_id.proofs.Bools.{or_cases, or_none}
-use Rattle.disk_base.specs.Disk.{FileView}
+use Rattle.disk_base.specs.Disk.{FileView, IsFile}
 use Rattle.disk_base.specs.Shelves.{ShelfView}
 use Rattle.disk_base.specs.declared.fault.NoMemory.{NoMemory}
 use Rattle.blob_node.specs.Units.{Units}
 use Rattle.blob_node.specs.UnitAnswer.{Effect, Answers, IsServed, view_at}
 use Rattle.blob_node.specs.Holding.{Written}
 use Rattle.blob_node.specs.HeldUnit.{UnitOver, name_of, disk_of, is_create}
-use Rattle.blob_node.specs.UnitTable.{unit_at, knows_released, greatest_of, AreNamed}
-use Rattle.blob_node.specs.Station.{StationOver, name_at, Stands, HandlesBy, Handled, CreatesBy, Created}
+use Rattle.blob_node.specs.UnitTable.{TableOver, unit_at, knows_released, greatest_of, AreNamed, ServesIn}
+use Rattle.blob_node.specs.Station.{StationOver, name_at, Stands, LeavesInCall, CrashLeaves, HandlesBy, Handled, CreatesBy, Created}
 use Rattle.blob_node.proofs.Holdings.{never_both}
 use Rattle.blob_node.proofs.Tables.{none_of}
 use Rattle.blob_node.proofs.Standing.{with_same}
 use Rattle.blob_node.proofs.Answering.{place_is, is_live, shows_none, serves_other, serves_create}
-use Rattle.blob_node.proofs.Serving.{name_is, none_at, release_known, stale_at, served_at, known_epoch}
+use Rattle.blob_node.proofs.Crashes.{create_is, crash_same, crash_served}
+use Rattle.blob_node.proofs.Serving.{station_of, serves_through, name_is, none_at, release_known, stale_at, served_at, known_epoch}
 
 pub not_less : (have epoch greatest : ℕ) → have ≡ greatest → nat_lt epoch greatest ≡ false → have ≤ epoch
 not_less have epoch greatest is e = grind (arith, nat_tests)
@@ -48,6 +50,8 @@ module _ {H F : Type 0} (shelf_seen : H → ShelfView F) (seen : F → FileView)
     };
     was_in_doubt = λ e. absurd (no_found true e);
     was_shut = λ e. absurd (never_both false refl e);
+    moments = crash_same shelf_seen seen written units station stands request None;
+    clear = λ clear. clear;
   }
 
   pub broken : (station : StationOver H F) → station.is_broken ≡ true → Handled shelf_seen seen request None (Ok answers.Broken) station station
@@ -150,7 +154,23 @@ module _ {H F : Type 0} (shelf_seen : H → ShelfView F) (seen : F → FileView)
 
         pub created : (result : Result answered.Answer NoMemory) → Created shelf_seen seen (name_of request) result station new → Handled shelf_seen seen request None result station new
         created result made = λ written units stands. record {
-          handles = by_result written units stands result (subst (λ p. CreatesBy shelf_seen seen p written units result new) place_there (made written units stands));
+          handles = by_result written units stands result (subst (λ p. CreatesBy shelf_seen seen p written units result new) place_there (made written units stands).0);
           was_in_doubt = λ e. absurd (no_found true e);
           was_shut = λ e. absurd (never_both false refl e);
+          moments = subst (λ (r : sent.Request). CrashLeaves shelf_seen seen station new (LeavesInCall shelf_seen seen r written units None station))
+              (sym (create_is request create ∙ ap (λ d. requests.Create (name_of request) d) at)) (made written units stands).1;
+          clear = (made written units stands).2;
         }
+
+-- ---- a unit that stands here
+
+module _ {H F : Type 0} (shelf_seen : H → ShelfView F) (seen : F → FileView) (shelf : H) (disk : ℕ) (old new : TableOver F) (request : sent.Request) (have : ℕ) (found : Option Bool) (result : Result answered.Answer NoMemory)
+    (named : AreNamed old.vid old.units) (name : IsName (name_of request)) (own : vid_of request ≡ old.vid) (at : disk_of request ≡ disk) (other : is_create request ≡ false)
+    (have_is : have ≡ greatest_of old.units (name_of request).index) (latest : have ≤ (name_of request).epoch) (free : knows_released (unit_at old.units (name_of request)) ≡ false)
+    (serves : ServesIn seen (packed (name_of request)) request have old new found result) (is_file : IsFile (seen serves.now.chunk.log.file)) where
+  pub serve_moments : (written : Place → Written) (units : Units) → Stands shelf_seen seen (station_of shelf disk false old) written units
+      → CrashLeaves shelf_seen seen (station_of shelf disk false old) (station_of shelf disk false new) (LeavesInCall shelf_seen seen request written units found (station_of shelf disk false old))
+  serve_moments written units stands =
+      let is = name_is request old.vid own in
+      crash_served shelf_seen seen shelf disk false old new (packed (name_of request)) serves.was serves.now serves.replaces is_file request written units found stands at (subst IsName (sym is) name) (ap packed (sym is))
+      (serves_through shelf_seen seen shelf disk old new request have found result named name own at other have_is latest free serves written units stands)

@@ -44,12 +44,12 @@ module _ {H F : Type 0} (shelf_seen : H → ShelfView F) (seen : F → FileView)
   -- ---- what lasts
 
   pub lasts_same : (station : StationOver H F) → Outlasts shelf_seen seen station station
-  lasts_same station = record { told = refl; quiet = λ quiet. quiet; faults = omega arith }
+  lasts_same station = record { told = refl; still = refl; quiet = λ quiet. quiet; faults = omega arith }
 
   pub lasts_then : (a b c : StationOver H F) → Outlasts shelf_seen seen a b → Outlasts shelf_seen seen b c → Outlasts shelf_seen seen a c
   lasts_then a b c one two =
       let first = one.faults in let then = two.faults in
-      record { told = two.told ∙ one.told; quiet = λ quiet. two.quiet (one.quiet quiet); faults = omega (arith, first, then) }
+      record { told = two.told ∙ one.told; still = two.still ∙ one.still; quiet = λ quiet. two.quiet (one.quiet quiet); faults = omega (arith, first, then) }
 
   -- one unit is replaced, over a file that lasts
   pub lasts_replaced : (shelf : H) (disk : ℕ) (is_broken : Bool) (old new : TableOver F) (word : ℕ) (was now : UnitOver F) → Replaces word old new was now → Lasts (seen was.chunk.log.file) (seen now.chunk.log.file)
@@ -58,6 +58,7 @@ module _ {H F : Type 0} (shelf_seen : H → ShelfView F) (seen : F → FileView)
       let s = sums shelf_seen seen shelf disk is_broken old new word was now replaces in
       let never = lasts.faults in record {
         told = refl;
+        still = refl;
         quiet = λ quiet. record {
           shelf = quiet.shelf;
           files = subst (AreQuiet shelf_seen seen) (sym replaces.units) (quiet_set old.units word now quiet.files (lasts.quiet ∙ quiet_at old.units word was replaces.found quiet.files));
@@ -77,6 +78,7 @@ module _ {H F : Type 0} (shelf_seen : H → ShelfView F) (seen : F → FileView)
   pub lasts_reserved : (shelf : H) (disk : ℕ) (is_broken : Bool) (old new : TableOver F) → new.units ≡ old.units → Outlasts shelf_seen seen (station_of shelf disk is_broken old) (station_of shelf disk is_broken new)
   lasts_reserved shelf disk is_broken old new same = record {
     told = refl;
+    still = refl;
     quiet = λ quiet. record { shelf = quiet.shelf; files = subst (AreQuiet shelf_seen seen) (sym same) quiet.files };
     faults = let s = ap (file_faults shelf_seen seen) same in omega (arith, s);
   }
@@ -87,6 +89,7 @@ module _ {H F : Type 0} (shelf_seen : H → ShelfView F) (seen : F → FileView)
       → Outlasts shelf_seen seen (station_of shelf disk is_broken old) (station_of new_shelf disk is_broken new)
   lasts_made shelf new_shelf disk is_broken old new unit chunk held starts its word are = record {
     told = starts.1.told;
+    still = starts.1.quiet;
     quiet = λ quiet. record {
       shelf = starts.1.quiet ∙ quiet.shelf;
       files = subst (AreQuiet shelf_seen seen) (sym are)
@@ -102,7 +105,8 @@ module _ {H F : Type 0} (shelf_seen : H → ShelfView F) (seen : F → FileView)
       → new.units ≡ old.units → Outlasts shelf_seen seen (station_of shelf disk is_broken old) (station_of new_shelf disk is_broken new)
   lasts_not_made shelf new_shelf disk is_broken old new unit fault starts same = record {
     told = starts.1.told;
-    quiet = λ quiet. record { shelf = starts.1.quiet quiet.shelf; files = subst (AreQuiet shelf_seen seen) (sym same) quiet.files };
+    still = starts.1.quiet;
+    quiet = λ quiet. record { shelf = starts.1.quiet ∙ quiet.shelf; files = subst (AreQuiet shelf_seen seen) (sym same) quiet.files };
     faults = let never = starts.1.counts in let s = ap (file_faults shelf_seen seen) same in omega (arith, never, s);
   }
 

@@ -9,7 +9,7 @@ use Rattle.unit_id.specs.Place.{Place}
 use Rattle.unit_id.specs.declared.request.Request.TheVariants as requests
 use Rattle.unit_id.specs.declared.answer.Answer as answered
 use Rattle.unit_id.specs.declared.answer.Answer.TheVariants as answers
-use Rattle.disk_base.specs.Disk.{FileView}
+use Rattle.disk_base.specs.Disk.{FileView, IsFile}
 use Rattle.chunk_store.specs.Chunk.{shown, IsSound}
 use Rattle.chunk_store.specs.Kept.{KeptRows, row_of, kind_of, Lists}
 use Rattle.chunk_store.specs.Kept as keeps
@@ -21,9 +21,9 @@ use Rattle.blob_node.specs.Holding.{Written, Holds}
 use Rattle.disk_base.specs.declared.fault.NoMemory.{NoMemory}
 use Rattle.chunk_store.specs.Chunk.{ListAnswers}
 use Rattle.chunk_store.specs.declared.fault.ChunkFault.{ChunkFault}
-use Rattle.blob_node.specs.HeldUnit.{UnitOver, is_released, Held, record_of_doubt, WorksOn, WorksBy, GivesListing}
+use Rattle.blob_node.specs.HeldUnit.{UnitOver, is_released, Held, record_of_doubt, WorksOn, WorksBy, WorksFrom, GivesListing}
 use Rattle.blob_node.proofs.Holdings.{stays, none_known}
-use Rattle.blob_node.proofs.Working.{state_of_kind, row_is}
+use Rattle.blob_node.proofs.Working.{state_of_kind, row_is, through_none}
 
 index_of : (n : ℕ) (xs : List ℕ) → IsIn n xs → (j : ℕ) × (j < length xs) × (get_or xs j 0 ≡ n)
 index_of n [] h = absurd h
@@ -80,12 +80,18 @@ module _ {E : Type 0} (seen : E → FileView) (old : UnitOver E) (open_ : old.ch
           (stays (shown seen old.chunk) (shown seen old.chunk) (option_map record_of_doubt old.doubt) (is_released old) (is_released old) written units place held open_ open_ (held.file.0 open_).0 refl);
     }
 
-  pub lists_by : (lock disk : ℕ) (outcome : Result (List ℕ × List ℕ) ChunkFault) (result : Result answered.Answer NoMemory)
+  lists_to : (lock disk : ℕ) (outcome : Result (List ℕ × List ℕ) ChunkFault) (result : Result answered.Answer NoMemory)
       → ListAnswers false (λ lists. Lists keeps.is_live old.chunk.kept lists.0 × Lists keeps.is_deleted old.chunk.kept lists.1) outcome → GivesListing lock outcome result → WorksBy seen (requests.List old.chunk.unit disk lock) written units place old result
-  lists_by lock disk (Ok lists) result is gives =
+  lists_to lock disk (Ok lists) result is gives =
       subst (WorksBy seen (requests.List old.chunk.unit disk lock) written units place old) (sym gives) (list_works lists.0 lists.1 is.0 is.1 lock disk)
-  lists_by lock disk (Err why) (Err e) is gives = held
-  lists_by lock disk (Err why) (Ok a) is gives = absurd (not_err a gives)
+  lists_to lock disk (Err why) (Err e) is gives = held
+  lists_to lock disk (Err why) (Ok a) is gives = absurd (not_err a gives)
     where
       not_err : (a : answered.Answer) → IsErr {T = answered.Answer} {E = NoMemory} (Ok a) → ⊥
       not_err a e = cc
+
+  pub lists_by : IsFile (seen old.chunk.log.file) → (lock disk : ℕ) (outcome : Result (List ℕ × List ℕ) ChunkFault) (result : Result answered.Answer NoMemory)
+      → ListAnswers false (λ lists. Lists keeps.is_live old.chunk.kept lists.0 × Lists keeps.is_deleted old.chunk.kept lists.1) outcome → GivesListing lock outcome result
+      → WorksFrom seen (requests.List old.chunk.unit disk lock) written units place old old result
+  lists_by is_file lock disk outcome result is gives =
+      (lists_to lock disk outcome result is gives, through_none seen (requests.List old.chunk.unit disk lock) old written units place is_file (held.file.0 open_).0)

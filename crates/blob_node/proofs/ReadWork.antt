@@ -1,10 +1,11 @@
 -- What is read of a unit that is at work.
-use Rattle.std.proofs.Common.{◌≡◌, ◌∙◌, sym, ap, refl, subst, ℕ, false, Option, None, Some, Result, Ok, Err}
+use Rattle.std.proofs.Common.{◌≡◌, ◌∙◌, sym, ap, refl, subst, ℕ, false, Option, None, Some, Result, Ok, Err, inl}
 use Rattle.std.specs.Prelude.{option_map, IsErr, not, ◌&&◌, ◌||◌}
 use Rattle.unit_id.specs.Place.{Place}
 use Rattle.unit_id.specs.declared.request.Request.TheVariants as requests
 use Rattle.unit_id.specs.declared.answer.Answer as answered
 use Rattle.disk_base.specs.Disk.{FileView}
+use Rattle.disk_base.specs.Moments.{weaker}
 use Rattle.disk_base.specs.declared.fault.NoMemory.{NoMemory}
 use Rattle.shard_record.specs.Rows.{Row, row_at}
 use Rattle.shard_record.specs.Rows as rows
@@ -15,8 +16,9 @@ use Rattle.chunk_store.specs.declared.fault.ChunkFault.TheVariants as faults
 use Rattle.blob_node.specs.Units.{UnitRecord, Units}
 use Rattle.blob_node.specs.UnitAnswer.{Effect, started}
 use Rattle.blob_node.specs.Holding.{Written, Holds, state_of}
-use Rattle.blob_node.specs.HeldUnit.{UnitOver, is_released, Held, record_of_doubt, Gives, of_got, WorksOn, WorksBy}
+use Rattle.blob_node.specs.HeldUnit.{UnitOver, is_released, Held, record_of_doubt, Gives, of_got, WorksOn, WorksBy, WorksFrom, LeavesAtWork}
 use Rattle.blob_node.proofs.Holdings.{has_still, stays, waits, none_known}
+use Rattle.blob_node.proofs.Working.{image_has}
 
 module _ {E : Type 0} (seen : E → FileView) (old new : UnitOver E) (open_ : old.chunk.is_shut ≡ false) (written : Written) (units : Units) (place : Place) (held : Held seen old written units place)
     (reads : IsReadOnly (shown seen old.chunk) (shown seen new.chunk)) (same_doubt : new.doubt ≡ old.doubt) (same_was : new.was_released ≡ old.was_released) where
@@ -49,13 +51,13 @@ module _ {E : Type 0} (seen : E → FileView) (old new : UnitOver E) (open_ : ol
     row_shown (Some rows.Marked) e = record { effect = Effect.Started; works = held.rows_are.rows bid ∙ ap state_of e; bytes = tt; holds = read_started }
     row_shown (Some rows.Gone) e = record { effect = Effect.Started; works = held.rows_are.rows bid ∙ ap state_of e; bytes = tt; holds = read_started }
 
-    pub read_works : (outcome : Result Got ChunkFault) → Gets (row_at written.items bid) outcome → Gives of_got outcome result → WorksBy seen (requests.Read old.chunk.unit disk bid) written units place new result
-    read_works (Ok got) is gives =
+    read_by : (outcome : Result Got ChunkFault) → Gets (row_at written.items bid) outcome → Gives of_got outcome result → WorksBy seen (requests.Read old.chunk.unit disk bid) written units place new result
+    read_by (Ok got) is gives =
         subst (WorksBy seen (requests.Read old.chunk.unit disk bid) written units place new) (sym (gives ∙ ap (λ (g : Got). Ok (of_got g)) is))
         (row_shown (row_at written.items bid) refl)
-    read_works (Err faults.Fault) is gives =
+    read_by (Err faults.Fault) is gives =
         subst (WorksBy seen (requests.Read old.chunk.unit disk bid) written units place new) (sym gives) (record { effect = Effect.Started; works = tt; bytes = tt; holds = read_started })
-    read_works (Err faults.Memory) is gives = by_result result gives
+    read_by (Err faults.Memory) is gives = by_result result gives
       where
         by_result : (r : Result answered.Answer NoMemory) → IsErr r → WorksBy seen (requests.Read old.chunk.unit disk bid) written units place new r
         by_result (Err e) h = read_nothing
@@ -63,4 +65,12 @@ module _ {E : Type 0} (seen : E → FileView) (old new : UnitOver E) (open_ : ol
           where
             not_err : (a : answered.Answer) → IsErr {T = answered.Answer} {E = NoMemory} (Ok a) → ⊥
             not_err a e = cc
-    read_works (Err _) is gives = absurd is
+    read_by (Err _) is gives = absurd is
+
+    pub read_works : (outcome : Result Got ChunkFault) → Gets (row_at written.items bid) outcome → Gives of_got outcome result
+        → WorksFrom seen (requests.Read old.chunk.unit disk bid) written units place old new result
+    read_works outcome is gives = (
+      read_by outcome is gives,
+      weaker (seen old.chunk.log.file).images (LeavesAtWork (requests.Read old.chunk.unit disk bid) old.chunk.unit written.items units place) (seen old.chunk.log.file) (seen new.chunk.log.file) reads.unwritten.reads.moments
+          (λ c left. inl (image_has (shown seen old.chunk) written.items (held.file.0 open_).0 c left)),
+    )

@@ -19,7 +19,7 @@ use Rattle.chunk_store.specs.declared.answer.Put.{Put}
 use Rattle.chunk_store.specs.declared.answer.Put.TheVariants as put
 use Rattle.blob_node.specs.Units.{Units, is_deleted}
 use Rattle.blob_node.specs.Holding.{Written}
-use Rattle.blob_node.specs.HeldUnit.{UnitOver, is_released, Held, doubt_by, Gives, of_put, of_change, of_unit, WorksBy, UnitCall}
+use Rattle.blob_node.specs.HeldUnit.{UnitOver, is_released, Held, doubt_by, Gives, of_put, of_change, of_unit, WorksFrom, UnitCall}
 use Rattle.blob_node.specs.declared.held_unit.Doubt.TheVariants as doubts
 use Rattle.blob_node.proofs.Working.{IsCalm, IsOpenPlan, call_by, state_of_kind, row_is, fence_is, Fitting, worked}
 
@@ -105,7 +105,7 @@ module _ {E : Type 0} (seen : E → FileView) (old new : UnitOver E) (open_ : ol
     put_fits None (Some kept.Marked) f r = (f, ap is_deleted r)
     put_fits None (Some kept.Gone) f r = (f, ap is_deleted r)
 
-    pub put_works : (outcome : Result Put ChunkFault) → Does seen (put_plan old.chunk bid size bytes) old.chunk new.chunk outcome → new.doubt ≡ doubt_by (doubts.Shard bid) outcome → Gives of_put outcome result → WorksBy seen (requests.Put old.chunk.unit disk bid size bytes) written units place new result
+    pub put_works : (outcome : Result Put ChunkFault) → Does seen (put_plan old.chunk bid size bytes) old.chunk new.chunk outcome → new.doubt ≡ doubt_by (doubts.Shard bid) outcome → Gives of_put outcome result → WorksFrom seen (requests.Put old.chunk.unit disk bid size bytes) written units place old new result
     put_works outcome does doubted gives =
         worked seen old new written units place held open_ sound free (Shard bid old.chunk.unit size bytes) (doubts.Shard bid) refl same_was is_file (requests.Put old.chunk.unit disk bid size bytes) refl refl (λ a. tt) of_put (put_plan old.chunk bid size bytes) outcome result
         (subst (λ (b : Bool). FitsPut (unless_shut b (unless_fenced old.chunk.kept.fence (put_at (row_of old.chunk.kept bid) (Shard bid old.chunk.unit size bytes))))) (sym open_)
@@ -121,7 +121,7 @@ module _ {E : Type 0} (seen : E → FileView) (old new : UnitOver E) (open_ : ol
     copy_fits None (Some kept.Marked) f r = (f, ap is_deleted r)
     copy_fits None (Some kept.Gone) f r = (f, ap is_deleted r)
 
-    pub copy_works : (outcome : Result Put ChunkFault) → Does seen (put_plan old.chunk bid size bytes) old.chunk new.chunk outcome → new.doubt ≡ doubt_by (doubts.Shard bid) outcome → Gives of_put outcome result → WorksBy seen (requests.Copy old.chunk.unit disk bid size bytes) written units place new result
+    pub copy_works : (outcome : Result Put ChunkFault) → Does seen (put_plan old.chunk bid size bytes) old.chunk new.chunk outcome → new.doubt ≡ doubt_by (doubts.Shard bid) outcome → Gives of_put outcome result → WorksFrom seen (requests.Copy old.chunk.unit disk bid size bytes) written units place old new result
     copy_works outcome does doubted gives =
         worked seen old new written units place held open_ sound free (Shard bid old.chunk.unit size bytes) (doubts.Shard bid) refl same_was is_file (requests.Copy old.chunk.unit disk bid size bytes) refl refl (λ a. tt) of_put (put_plan old.chunk bid size bytes) outcome result
         (subst (λ (b : Bool). FitsCopy (unless_shut b (unless_fenced old.chunk.kept.fence (put_at (row_of old.chunk.kept bid) (Shard bid old.chunk.unit size bytes))))) (sym open_)
@@ -138,7 +138,7 @@ module _ {E : Type 0} (seen : E → FileView) (old new : UnitOver E) (open_ : ol
     mark_fits None (Some kept.Marked) f r = (f, ap is_deleted r)
     mark_fits None (Some kept.Gone) f r = (f, ap is_deleted r)
 
-    pub mark_works : (outcome : Result Bool ChunkFault) → Does seen (mark_plan old.chunk bid) old.chunk new.chunk outcome → new.doubt ≡ doubt_by (doubts.Mark bid) outcome → Gives of_change outcome result → WorksBy seen (requests.Mark old.chunk.unit disk bid) written units place new result
+    pub mark_works : (outcome : Result Bool ChunkFault) → Does seen (mark_plan old.chunk bid) old.chunk new.chunk outcome → new.doubt ≡ doubt_by (doubts.Mark bid) outcome → Gives of_change outcome result → WorksFrom seen (requests.Mark old.chunk.unit disk bid) written units place old new result
     mark_works outcome does doubted gives =
         worked seen old new written units place held open_ sound free (Mark bid old.chunk.unit) (doubts.Mark bid) refl same_was is_file (requests.Mark old.chunk.unit disk bid) refl refl (λ a. tt) of_change (mark_plan old.chunk bid) outcome result
         (subst (λ (b : Bool). FitsMark (unless_shut b (unless_fenced old.chunk.kept.fence (mark_at (row_of old.chunk.kept bid) (Mark bid old.chunk.unit))))) (sym open_)
@@ -154,7 +154,7 @@ module _ {E : Type 0} (seen : E → FileView) (old new : UnitOver E) (open_ : ol
     free_fits None (Some kept.Marked) f r = (refl, (f, r), (f, r), (λ end. (f, r)), r)
     free_fits None (Some kept.Gone) f r = (f, r)
 
-    pub free_works : (outcome : Result Bool ChunkFault) → Does seen (free_plan old.chunk bid) old.chunk new.chunk outcome → new.doubt ≡ doubt_by (doubts.Free bid) outcome → Gives of_change outcome result → WorksBy seen (requests.Free old.chunk.unit disk bid) written units place new result
+    pub free_works : (outcome : Result Bool ChunkFault) → Does seen (free_plan old.chunk bid) old.chunk new.chunk outcome → new.doubt ≡ doubt_by (doubts.Free bid) outcome → Gives of_change outcome result → WorksFrom seen (requests.Free old.chunk.unit disk bid) written units place old new result
     free_works outcome does doubted gives =
         worked seen old new written units place held open_ sound free (Free bid old.chunk.unit) (doubts.Free bid) refl same_was is_file (requests.Free old.chunk.unit disk bid) refl refl (λ a. tt) of_change (free_plan old.chunk bid) outcome result
         (subst (λ (b : Bool). FitsFree (unless_shut b (unless_fenced old.chunk.kept.fence (free_at (row_of old.chunk.kept bid) (Free bid old.chunk.unit))))) (sym open_)
@@ -172,7 +172,7 @@ module _ {E : Type 0} (seen : E → FileView) (old new : UnitOver E) (open_ : ol
     fence_fits None f = (refl, f, f, (λ end. f), f)
     fence_fits (Some first) f = first_fits first (first == lock) refl f
 
-    pub fence_works : (outcome : Result (Unit {0}) ChunkFault) → Does seen (fence_plan old.chunk lock) old.chunk new.chunk outcome → new.doubt ≡ doubt_by (doubts.Fence lock) outcome → Gives of_unit outcome result → WorksBy seen (requests.Fence old.chunk.unit disk lock) written units place new result
+    pub fence_works : (outcome : Result (Unit {0}) ChunkFault) → Does seen (fence_plan old.chunk lock) old.chunk new.chunk outcome → new.doubt ≡ doubt_by (doubts.Fence lock) outcome → Gives of_unit outcome result → WorksFrom seen (requests.Fence old.chunk.unit disk lock) written units place old new result
     fence_works outcome does doubted gives =
         worked seen old new written units place held open_ sound free (Fence lock old.chunk.unit) (doubts.Fence lock) refl same_was is_file (requests.Fence old.chunk.unit disk lock) refl refl (λ a. tt) of_unit (fence_plan old.chunk lock) outcome result
         (subst (λ (b : Bool). FitsFence (unless_shut b (fence_at old.chunk.kept.fence lock (Fence lock old.chunk.unit)))) (sym open_) (fence_fits old.chunk.kept.fence fence_there)) does doubted gives
@@ -180,7 +180,7 @@ module _ {E : Type 0} (seen : E → FileView) (old new : UnitOver E) (open_ : ol
   abbrev FitsRelease : Plan (Unit {0}) → Type 0
   FitsRelease = Fitting seen old new written units place held open_ sound free (Release old.chunk.unit) doubts.Release refl same_was is_file (requests.Release old.chunk.unit disk) refl refl (λ a. tt) of_unit
 
-  pub release_works : (outcome : Result (Unit {0}) ChunkFault) → Does seen (release_plan old.chunk) old.chunk new.chunk outcome → new.doubt ≡ doubt_by doubts.Release outcome → Gives of_unit outcome result → WorksBy seen (requests.Release old.chunk.unit disk) written units place new result
+  pub release_works : (outcome : Result (Unit {0}) ChunkFault) → Does seen (release_plan old.chunk) old.chunk new.chunk outcome → new.doubt ≡ doubt_by doubts.Release outcome → Gives of_unit outcome result → WorksFrom seen (requests.Release old.chunk.unit disk) written units place old new result
   release_works outcome does doubted gives =
       worked seen old new written units place held open_ sound free (Release old.chunk.unit) doubts.Release refl same_was is_file (requests.Release old.chunk.unit disk) refl refl (λ a. tt) of_unit (release_plan old.chunk) outcome result
       (subst (λ (b : Bool). FitsRelease (unless_shut b (add (Release old.chunk.unit) tt))) (sym open_) (refl, tt, tt, (λ end. tt), sym held.released ∙ free)) does doubted gives

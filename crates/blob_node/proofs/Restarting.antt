@@ -1,5 +1,5 @@
 -- A restart: what the station stands for after each start in turn.
-use Rattle.std.proofs.Common.{◌≡◌, ◌∙◌, sym, ap, refl, subst, ℕ, ◌≤◌, ◌<◌, ◌+◌, ◌++◌, Bool, true, false, cond, List, [], ◌∷◌, Option, None, Some, Result, Ok, Err, ◌⊎◌, inl, inr, nat_eq, IfSome, arith}
+use Rattle.std.proofs.Common.{◌≡◌, ◌∙◌, sym, ap, refl, subst, ℕ, ◌≤◌, ◌<◌, ◌+◌, ◌++◌, Bool, true, false, cond, List, [], ◌∷◌, Option, None, Some, Result, Ok, Err, ◌⊎◌, inl, inr, nat_eq, IfSome, IsSomeAnd, arith}
 use Rattle.std.specs.Prelude.{◌==◌, is_some, option_map, IsErr, MatchResult, IfErr}
 use Rattle.std.specs.List.{list_any}
 use Rattle.std.proofs.lemmas.List.Kept.{AllPairs-from_increasing}
@@ -12,9 +12,10 @@ use Rattle.unit_id.specs.declared.answer.Answer.TheVariants as answers
 use Rattle.unit_id.proofs.Bools.{or_left, or_right, same_number, equal_test}
 use Rattle.unit_id.proofs.Places.{same_place, is_place_gives, is_place_self}
 use Rattle.unit_id.proofs.Membership.{any_gives, gives_any}
-use Rattle.disk_base.specs.Disk.{FileView, IsFile, AtEachMoment}
+use Rattle.disk_base.specs.Disk.{FileView, IsFile, AtEachMoment, Lasts}
 use Rattle.disk_base.specs.Moments.{at_start, joined}
 use Rattle.disk_base.specs.Faults.{Rose}
+use Rattle.disk_base.specs.JointMoments.{leaves_by, LeavesAt}
 use Rattle.disk_base.specs.Shelves.{ShelfView}
 use Rattle.disk_base.specs.declared.fault.NoMemory.{NoMemory}
 use Rattle.shard_record.specs.declared.record.ShardRecord.{ShardRecord}
@@ -30,14 +31,17 @@ use Rattle.blob_node.specs.declared.held_unit.Doubt.{Doubt}
 use Rattle.blob_node.specs.declared.settled.Settled.{Settled}
 use Rattle.blob_node.specs.UnitTable.{Entries, TableOver, at_word, unit_at, IsNamed, AreNamed, Replaces, StartsIn, Tells}
 use Rattle.blob_node.specs.Starting.{noted, StartsNext, StartsEach, AreWords, StartsAll}
-use Rattle.blob_node.specs.Station.{StationOver, name_at, StandsAt, Stands, faults_of, CountsFault, StationCall, units_settled, written_settled_by, AreInOrder, is_settled, all_open, all_shut, Restarts, IsKept, AreKept, Restarted}
+use Rattle.blob_node.specs.Station.{StationOver, name_at, StandsAt, Stands, Outlasts, faults_of, CountsFault, StationCall, units_settled, written_settled_by, AreInOrder, is_settled, all_open, all_shut, rack_of, LeavesRecords, CrashLeaves, IsClear, Restarts, IsKept, AreKept, Restarted}
 use Rattle.blob_node.proofs.Lookups.{elsewhere, there_now}
 use Rattle.blob_node.proofs.Holdings.{never_both, new_still}
 use Rattle.blob_node.proofs.ListWork.{ascends, same_test}
 use Rattle.blob_node.proofs.Settling.{crash_leaves}
-use Rattle.blob_node.proofs.Tables.{named_at, name_by_word, some_set, named_set, at_set, eq_gives, eq_self}
+use Rattle.blob_node.proofs.Tables.{named_at, name_by_word, none_of, some_set, named_set, at_set, eq_gives, eq_self}
 use Rattle.blob_node.proofs.Standing.{SameAt, same_as_is, same_then, loosened, with_same, settled_elsewhere}
-use Rattle.blob_node.proofs.Serving.{station_of, held_at, made_at, count_cases, sums, call_counts, stands_then}
+use Rattle.blob_node.proofs.Serving.{station_of, held_at, made_at, count_cases, call_counts, stands_then}
+use Rattle.blob_node.proofs.Clearing.{clear_same}
+use Rattle.blob_node.proofs.Crashes.{crash_none, crash_on}
+use Rattle.blob_node.proofs.Lasting.{lasts_same, lasts_then, lasts_replaced}
 
 -- ---- lists that grow at their end
 
@@ -164,7 +168,7 @@ module _ {H F : Type 0} (shelf_seen : H → ShelfView F) (seen : F → FileView)
     pub vid : cur.vid ≡ first.vid
     pub named : AreNamed cur.vid cur.units
     pub words : (word : ℕ) → is_some (at_word word cur.units) ≡ is_some (at_word word first.units)
-    pub counts : faults_of shelf_seen seen (standing first) ≤ faults_of shelf_seen seen (standing cur)
+    pub lasts : Outlasts shelf_seen seen (standing first) (standing cur)
     pub opened : (word : ℕ) (unit : UnitOver F) → at_word word cur.units ≡ Some unit → IsIn word rest ⊎ (unit.chunk.is_shut ≡ false)
     pub before : (item : Settled) → IsIn item items → (word : ℕ) → IsIn word rest → packed item.unit + 1 ≤ word
     pub own : (item : Settled) → IsIn item items → item.unit.vid ≡ first.vid
@@ -172,6 +176,7 @@ module _ {H F : Type 0} (shelf_seen : H → ShelfView F) (seen : F → FileView)
     pub stands : (written : Place → Written) (units : Units) → Stands shelf_seen seen (standing first) written units → Stands shelf_seen seen (standing cur) (written_settled_by disk items written) (units_settled disk items units)
     pub in_doubt : (written : Place → Written) (units : Units) → Stands shelf_seen seen (standing first) written units → (item : Settled) → IsIn item items → is_some (units.doubt (place_at item.unit disk)) ≡ true
     pub kept : (written : Place → Written) (units : Units) → Stands shelf_seen seen (standing first) written units → AreKept shelf_seen seen written (standing first) (standing cur)
+    pub moments : (written : Place → Written) (units : Units) → Stands shelf_seen seen (standing first) written units → CrashLeaves shelf_seen seen (standing first) (standing cur) (LeavesRecords shelf_seen seen written (standing first))
     pub all : (written : Place → Written) (units : Units) → Stands shelf_seen seen (standing first) written units → (q : Place) → q.disk ≡ disk → is_some (units.doubt q) ≡ true → IsIn (packed (name_at first.vid q)) rest ⊎ (is_settled disk q items ≡ true)
 
   -- a unit with a record in doubt was made
@@ -241,8 +246,8 @@ module _ {H F : Type 0} (shelf_seen : H → ShelfView F) (seen : F → FileView)
         go true e h = inr (ap (λ (u : UnitOver F). u.chunk.is_shut) (sym (one h)) ∙ open_)
         go false e h = by e (s.opened other unit h)
 
-    next_counts : (seen was.chunk.log.file).faults ≤ (seen now.chunk.log.file).faults → faults_of shelf_seen seen (standing first) ≤ faults_of shelf_seen seen (standing next)
-    next_counts more = let before = s.counts in let sum = sums shelf_seen seen shelf disk false cur next word was now replaces in omega (arith, before, sum, more)
+    next_lasts : Lasts (seen was.chunk.log.file) (seen now.chunk.log.file) → Outlasts shelf_seen seen (standing first) (standing next)
+    next_lasts file = lasts_then shelf_seen seen (standing first) (standing cur) (standing next) s.lasts (lasts_replaced shelf_seen seen shelf disk false cur next word was now replaces file)
 
     -- no record of this unit was settled before
     apart : (item : Settled) → IsIn item items → place ≡ place_at item.unit disk → ⊥
@@ -287,7 +292,55 @@ module _ {H F : Type 0} (shelf_seen : H → ShelfView F) (seen : F → FileView)
             record { now = now; found = at; unit = replaces.unit ∙ ap (λ (u : UnitOver F). u.chunk.unit) same ∙ so_far.unit; moments = moved unit so_far.now same so_far.unit so_far.moments }
         go other unit so_far false e at = record { now = so_far.now; found = at ∙ so_far.found; unit = so_far.unit; moments = so_far.moments }
 
-    module _ (through : StartsThrough seen was now) (found : Bool) (open_ : now.chunk.is_shut ≡ false) (counts : (seen was.chunk.log.file).faults ≤ (seen now.chunk.log.file).faults) (starts : (written : Written) (units : Units) (p : Place) → Held seen was written units p → StartsBy seen written units p now (Ok found)) where
+    -- the unit of a name, as it stands now
+    now_named : (q : Place) → IsName (name_at first.vid q) → (unit mid : UnitOver F) → at_word (packed (name_at first.vid q)) cur.units ≡ Some mid → mid.chunk.unit ≡ unit.chunk.unit → q.disk ≡ disk → place_at unit.chunk.unit disk ≡ q
+    now_named q named unit mid found own at =
+        let is = named_at cur.vid cur.units (packed (name_at first.vid q)) mid s.named found in
+        let one = sym own ∙ name_by_word (name_at first.vid q) named cur.vid (packed (name_at first.vid q)) mid is refl in
+        same_place (place_at unit.chunk.unit disk) q (ap (λ (n : Name). n.index) one) (ap (λ (n : Name). n.epoch) one) (sym at)
+
+    -- each unit's file has its records up to here
+    kept_at : (written : Place → Written) (units : Units) → Stands shelf_seen seen (standing first) written units → (q : Place) → q.disk ≡ disk → IsName (name_at first.vid q) → (o : Option (UnitOver F)) → at_word (packed (name_at first.vid q)) first.units ≡ o → (x : Option (List ℕ))
+        → LeavesAt shelf_seen seen (rack_of (standing cur)) (packed (name_at first.vid q)) x → LeavesRecords shelf_seen seen written (standing first) q o x
+    kept_at written units stands q at named None e x left =
+        let none = none_of (at_word (packed (name_at first.vid q)) cur.units) (s.words (packed (name_at first.vid q)) ∙ ap is_some e) in
+        subst (λ (o : Option (UnitOver F)). leaves_by shelf_seen seen (option_map (λ (u : UnitOver F). u.chunk.log.file) o) shelf (packed (name_at first.vid q)) x) none left
+    kept_at written units stands q at named (Some unit) e x left =
+        let k = s.kept written units stands (packed (name_at first.vid q)) unit e in
+        by k x (subst (λ (o : Option (UnitOver F)). leaves_by shelf_seen seen (option_map (λ (u : UnitOver F). u.chunk.log.file) o) shelf (packed (name_at first.vid q)) x) k.found left)
+      where
+        by : (k : IsKept shelf_seen seen (written (place_at unit.chunk.unit disk)) (packed (name_at first.vid q)) unit (standing cur)) (x : Option (List ℕ)) → IsSomeAnd x (seen k.now.chunk.log.file).images → IsSomeAnd x (Says unit.chunk.unit (written q).items (written q).doubt)
+        by k None left = absurd left
+        by k (Some bytes) left =
+            subst (λ (p : Place). Says unit.chunk.unit (written p).items (written p).doubt bytes) (now_named q named unit k.now k.found k.unit at)
+            (k.moments.each bytes ((is_file k.now.chunk.log.file).present_counts (seen unit.chunk.log.file).clock bytes k.moments.never_falls left))
+
+    next_moments : StartsThrough seen was now → (written : Place → Written) (units : Units) → Stands shelf_seen seen (standing first) written units → CrashLeaves shelf_seen seen (standing first) (standing next) (LeavesRecords shelf_seen seen written (standing first))
+    next_moments through written units stands =
+        crash_on shelf_seen seen shelf disk false cur next word was now replaces (is_file now.chunk.log.file) (standing first) (LeavesRecords shelf_seen seen written (standing first)) place refl (subst (λ v. IsName (name_at v place)) s.vid place_name)
+        (word_is ∙ ap (λ v. packed (name_at v place)) s.vid) step.never_falls (λ x left. here_now x left (unit_at first.units (name_at first.vid place)) refl)
+        (λ q at named x left. kept_at written units stands q at named (unit_at first.units (name_at first.vid q)) refl x left) (s.moments written units stands)
+      where
+        step : AtEachMoment (seen was.chunk.log.file) (seen now.chunk.log.file) (Says was.chunk.unit (written place).items (written place).doubt)
+        step = subst (λ (w : Written). AtEachMoment (seen was.chunk.log.file) (seen now.chunk.log.file) (Says was.chunk.unit w.items w.doubt)) (written_elsewhere disk items written place apart)
+            (through (written_settled_by disk items written place) (units_settled disk items units) place (held (written_settled_by disk items written) (units_settled disk items units) (s.stands written units stands)))
+
+        same_word : packed (name_at first.vid place) ≡ word
+        same_word = sym (word_is ∙ ap (λ v. packed (name_at v place)) s.vid)
+
+        one : (x y : UnitOver F) → Some x ≡ Some y → x ≡ y
+        one x y h = cc
+
+        here_now : (x : Option (List ℕ)) → IsSomeAnd x ((seen now.chunk.log.file).images_since (seen was.chunk.log.file).clock) → (o : Option (UnitOver F)) → unit_at first.units (name_at first.vid place) ≡ o → LeavesRecords shelf_seen seen written (standing first) place o x
+        here_now None left o e = absurd left
+        here_now (Some bytes) left None e =
+            absurd (never_both (is_some (at_word word cur.units)) (s.words word ∙ ap (λ w. is_some (at_word w first.units)) (sym same_word) ∙ ap is_some e) (ap is_some replaces.found))
+        here_now (Some bytes) left (Some unit) e =
+            let k = s.kept written units stands (packed (name_at first.vid place)) unit e in
+            let same = one k.now was (sym k.found ∙ ap (λ w. at_word w cur.units) same_word ∙ replaces.found) in
+            subst (λ (n : Name). Says n (written place).items (written place).doubt bytes) (sym (ap (λ (u : UnitOver F). u.chunk.unit) same) ∙ k.unit) (step.each bytes left)
+
+    module _ (through : StartsThrough seen was now) (found : Bool) (open_ : now.chunk.is_shut ≡ false) (lasts : Lasts (seen was.chunk.log.file) (seen now.chunk.log.file)) (starts : (written : Written) (units : Units) (p : Place) → Held seen was written units p → StartsBy seen written units p now (Ok found)) where
       -- nothing was in doubt
       quiet : (f : Bool) (written : Written) (units : Units) → Held seen now (written_settled f written) (settled place f units) place × (f ≡ true → is_some (units.doubt place) ≡ true) → written.doubt ≡ None → units.doubt place ≡ None → Held seen now written units place
       quiet true written units is none_written none = absurd (never_both (is_some (units.doubt place)) (ap is_some none) (is.1 refl))
@@ -308,7 +361,7 @@ module _ {H F : Type 0} (shelf_seen : H → ShelfView F) (seen : F → FileView)
         vid = replaces.vid ∙ s.vid;
         named = next_named;
         words = next_words;
-        counts = next_counts counts;
+        lasts = next_lasts lasts;
         opened = next_opened open_;
         before = λ item h w there. s.before item h w (inr there);
         own = s.own;
@@ -322,6 +375,7 @@ module _ {H F : Type 0} (shelf_seen : H → ShelfView F) (seen : F → FileView)
             (λ q ne. same_as_is (units_settled disk items units) q);
         in_doubt = s.in_doubt;
         kept = next_kept through;
+        moments = next_moments through;
         all = λ written units stands q at some. by written units stands q at some (s.all written units stands q at some);
       }
         where
@@ -343,7 +397,7 @@ module _ {H F : Type 0} (shelf_seen : H → ShelfView F) (seen : F → FileView)
         vid = replaces.vid ∙ s.vid;
         named = next_named;
         words = next_words;
-        counts = next_counts counts;
+        lasts = next_lasts lasts;
         opened = next_opened open_;
         before = λ other h w there. elim (in_last items item other h) [
           | inl old ↦ s.before other old w (inr there)
@@ -369,6 +423,7 @@ module _ {H F : Type 0} (shelf_seen : H → ShelfView F) (seen : F → FileView)
               ap (λ (x : Settled). is_some (units.doubt (place_at x.unit disk))) new ∙ ap is_some (sym (known_before units) ∙ was_held.doubted ∙ ap (option_map record_of_doubt) doubted)
         ];
         kept = next_kept through;
+        moments = next_moments through;
         all = λ written units stands q at some. by written units stands q at some (s.all written units stands q at some);
       }
         where
@@ -421,17 +476,32 @@ module _ {H F : Type 0} (shelf_seen : H → ShelfView F) (seen : F → FileView)
           open_holds (shown seen unit.chunk) (option_map record_of_doubt unit.doubt) (is_released unit) (written q) units q (all_open disk units).is_shut (opened (packed (name_at station.vid q)) unit e) held_
       go q None e none = none
 
+  -- what a crash leaves at each moment of the restart
+  abbrev Throughout : (Place → Written) → TableOver F → Type 0
+  Throughout written new = CrashLeaves shelf_seen seen (standing first) (standing new) (LeavesRecords shelf_seen seen written (standing first))
+
+  -- what a restart with this answer leaves
+  abbrev Leads : (Place → Written) → Units → List Settled → Result answered.Answer NoMemory → TableOver F → Type 0
+  Leads written units items answer new =
+      Restarts shelf_seen seen written units items answer (standing new) × AreKept shelf_seen seen written (standing first) (standing new) × Throughout written new
+      × (IsClear shelf_seen seen (standing first) → IsClear shelf_seen seen (standing new))
+
+  still_clear : (new : TableOver F) → new.vid ≡ first.vid → ((word : ℕ) → is_some (at_word word new.units) ≡ is_some (at_word word first.units)) → IsClear shelf_seen seen (standing first) → IsClear shelf_seen seen (standing new)
+  still_clear new vid words = clear_same shelf_seen seen (standing first) (standing new) vid refl words
+
   pub record Ends (new : TableOver F) (items : List Settled) (answer : Result answered.Answer NoMemory) : Type 0 where
     pub vid : new.vid ≡ first.vid
     pub words : (word : ℕ) → is_some (at_word word new.units) ≡ is_some (at_word word first.units)
     pub counts : CountsFault shelf_seen seen (standing first) (standing new) answer
-    pub told : (written : Place → Written) (units : Units) → Stands shelf_seen seen (standing first) written units → Restarts shelf_seen seen written units items answer (standing new) × AreKept shelf_seen seen written (standing first) (standing new)
+    pub lasts : Outlasts shelf_seen seen (standing first) (standing new)
+    pub told : (written : Place → Written) (units : Units) → Stands shelf_seen seen (standing first) written units → Leads written units items answer new
 
   all_done : (cur : TableOver F) (items : List Settled) → Settles cur [] items → Ends cur items (Ok answers.Done)
   all_done cur items s = record {
     vid = s.vid;
     words = s.words;
-    counts = s.counts;
+    counts = s.lasts.faults;
+    lasts = s.lasts;
     told = λ written units stands. (
       record {
         restarts = (
@@ -439,9 +509,12 @@ module _ {H F : Type 0} (shelf_seen : H → ShelfView F) (seen : F → FileView)
           λ q at. same_bits (is_some (units.doubt q)) (is_settled disk q items) (λ some. settled_now (s.all written units stands q at some)) (λ some. was_doubted written units stands q some),
         );
         order = s.order;
+        own = λ item h. s.own item h ∙ sym s.vid;
         in_doubt = s.in_doubt written units stands;
       },
       s.kept written units stands,
+      s.moments written units stands,
+      still_clear cur s.vid s.words,
     );
   }
     where
@@ -463,24 +536,28 @@ module _ {H F : Type 0} (shelf_seen : H → ShelfView F) (seen : F → FileView)
           subst (λ p. is_some (units.doubt p) ≡ true) (is_place_gives (place_at w.0.unit disk) q w.2) (s.in_doubt written units stands w.0 w.1)
 
   -- want of memory
-  no_memory : (cur new : TableOver F) (rest : List ℕ) (items : List Settled) → Settles cur rest items → new.vid ≡ cur.vid → ((word : ℕ) → is_some (at_word word new.units) ≡ is_some (at_word word first.units)) → faults_of shelf_seen seen (standing first) ≤ faults_of shelf_seen seen (standing new)
+  no_memory : (cur new : TableOver F) (rest : List ℕ) (items : List Settled) → Settles cur rest items → new.vid ≡ cur.vid → ((word : ℕ) → is_some (at_word word new.units) ≡ is_some (at_word word first.units)) → Outlasts shelf_seen seen (standing first) (standing new)
       → ((written : Place → Written) (units : Units) → Stands shelf_seen seen (standing cur) written units → Stands shelf_seen seen (standing new) written units)
-      → ((written : Place → Written) (units : Units) → Stands shelf_seen seen (standing first) written units → AreKept shelf_seen seen written (standing first) (standing new)) → (answer : Result answered.Answer NoMemory) → IsErr answer → Ends new items answer
-  no_memory cur new rest items s vid words counts stands kept (Ok answer) is = absurd (not_err answer is)
+      → ((written : Place → Written) (units : Units) → Stands shelf_seen seen (standing first) written units → AreKept shelf_seen seen written (standing first) (standing new) × Throughout written new) → (answer : Result answered.Answer NoMemory) → IsErr answer → Ends new items answer
+  no_memory cur new rest items s vid words lasts stands kept (Ok answer) is = absurd (not_err answer is)
     where
       not_err : (a : answered.Answer) → IsErr {T = answered.Answer} {E = NoMemory} (Ok a) → ⊥
       not_err a h = cc
-  no_memory cur new rest items s vid words counts stands kept (Err e) is = record {
+  no_memory cur new rest items s vid words lasts stands kept (Err e) is = record {
     vid = vid ∙ s.vid;
     words = words;
-    counts = counts;
+    counts = lasts.faults;
+    lasts = lasts;
     told = λ written units was. (
       record {
         restarts = stands (written_settled_by disk items written) (units_settled disk items units) (s.stands written units was);
         order = s.order;
+        own = λ item h. s.own item h ∙ sym (vid ∙ s.vid);
         in_doubt = s.in_doubt written units was;
       },
-      kept written units was,
+      (kept written units was).0,
+      (kept written units was).1,
+      still_clear new (vid ∙ s.vid) words,
     );
   }
 
@@ -519,11 +596,14 @@ module _ {H F : Type 0} (shelf_seen : H → ShelfView F) (seen : F → FileView)
     words_now : (other : ℕ) → is_some (at_word other next.units) ≡ is_some (at_word other first.units)
     words_now = next_words cur next word was_ now_ replaces rest items s ascend
 
-    more : faults_of shelf_seen seen (standing first) ≤ faults_of shelf_seen seen (standing next)
-    more = next_counts cur next word was_ now_ replaces rest items s ascend call_.lasts.faults
+    more : Outlasts shelf_seen seen (standing first) (standing next)
+    more = next_lasts cur next word was_ now_ replaces rest items s ascend call_.lasts
 
-    all_kept : (written : Place → Written) (units : Units) → Stands shelf_seen seen (standing first) written units → AreKept shelf_seen seen written (standing first) (standing next)
-    all_kept = next_kept cur next word was_ now_ replaces rest items s ascend starts.starts.through
+    all_kept : (written : Place → Written) (units : Units) → Stands shelf_seen seen (standing first) written units → AreKept shelf_seen seen written (standing first) (standing next) × Throughout written next
+    all_kept written units stands = (
+      next_kept cur next word was_ now_ replaces rest items s ascend starts.starts.through written units stands,
+      next_moments cur next word was_ now_ replaces rest items s ascend starts.starts.through written units stands,
+    )
 
     rises : answer ≡ Ok answers.Fault → Rose (faults_of shelf_seen seen (standing cur)) (faults_of shelf_seen seen (standing next))
     rises e =
@@ -531,15 +611,18 @@ module _ {H F : Type 0} (shelf_seen : H → ShelfView F) (seen : F → FileView)
         (call_counts shelf_seen seen shelf disk false cur next word was_ now_ replaces answer call_.lasts.faults
         (λ f. rises_fault fault answer (seen was_.chunk.log.file).faults (seen now_.chunk.log.file).faults named_ refused call_.counts f))
 
-    by : (written : Place → Written) (units : Units) → Stands shelf_seen seen (standing first) written units → (fault ≡ faults.Fault) ⊎ (fault ≡ faults.Memory) → Restarts shelf_seen seen written units items answer (standing next) × AreKept shelf_seen seen written (standing first) (standing next)
+    by : (written : Place → Written) (units : Units) → Stands shelf_seen seen (standing first) written units → (fault ≡ faults.Fault) ⊎ (fault ≡ faults.Memory) → Leads written units items answer next
     by written units stands (inl e) = (
       subst (λ (r : Result answered.Answer NoMemory). Restarts shelf_seen seen written units items r (standing next)) (sym (subst (λ f. Refused f answer) e refused))
           (record {
             restarts = stands_shut cur next word was_ now_ replaces rest items s ascend fault shut_ starts_ (written_settled_by disk items written) (units_settled disk items units) (s.stands written units stands);
             order = s.order;
+            own = λ item h. s.own item h ∙ sym (replaces.vid ∙ s.vid);
             in_doubt = s.in_doubt written units stands;
           }),
-      all_kept written units stands,
+      (all_kept written units stands).0,
+      (all_kept written units stands).1,
+      still_clear next (replaces.vid ∙ s.vid) words_now,
     )
     by written units stands (inr e) =
         (no_memory cur next (word ∷ rest) items s replaces.vid words_now more
@@ -550,7 +633,8 @@ module _ {H F : Type 0} (shelf_seen : H → ShelfView F) (seen : F → FileView)
     gives_up = record {
       vid = replaces.vid ∙ s.vid;
       words = words_now;
-      counts = count_cases shelf_seen seen (standing first) (standing next) answer more (λ e. rise_more _ _ _ s.counts (rises e));
+      counts = count_cases shelf_seen seen (standing first) (standing next) answer more.faults (λ e. rise_more _ _ _ s.lasts.faults (rises e));
+      lasts = more;
       told = λ written units stands. by written units stands (starts_ (written_settled_by disk items written place_) (units_settled disk items units) place_ (held_ (written_settled_by disk items written) (units_settled disk items units) (s.stands written units stands))).0;
     }
 
@@ -560,7 +644,7 @@ module _ {H F : Type 0} (shelf_seen : H → ShelfView F) (seen : F → FileView)
       subst (λ o. Settles next rest (noted items o)) (sym ok.2)
       (settles_by cur next word starts.was starts.now starts.replaces rest items s ascend starts.starts.through ok.0
       (subst (λ (r : Result Bool ChunkFault). MatchResult r (λ _. starts.now.chunk.is_shut ≡ false) (λ f. starts.now.chunk.is_shut ≡ shut_after f starts.was.chunk.is_shut)) ok.1 starts.starts.ends)
-      starts.starts.call.lasts.faults
+      starts.starts.call.lasts
       (subst (λ r. StartedOne seen starts.was starts.now r) ok.1 starts.starts.restarted)
       starts.was.doubt refl)
 
@@ -571,7 +655,7 @@ module _ {H F : Type 0} (shelf_seen : H → ShelfView F) (seen : F → FileView)
   one_ends cur new word rest items more s ascend (Err why) is (same, inl none) answer gives =
       subst (λ xs. Ends new xs answer) (sym same)
       (subst (λ t. Ends t items answer) (sym none.1)
-      (no_memory cur cur (word ∷ rest) items s refl s.words s.counts (λ written units stands. stands) s.kept answer (subst (λ f. Refused f answer) none.0 gives)))
+      (no_memory cur cur (word ∷ rest) items s refl s.words s.lasts (λ written units stands. stands) (λ written units stands. (s.kept written units stands, s.moments written units stands)) answer (subst (λ f. Refused f answer) none.0 gives)))
 
   each_ends : (words : List ℕ) → AreAscending words → (cur new : TableOver F) (items more : List Settled) → Settles cur words items → (result : Result (Unit {0}) ChunkFault) → StartsEach seen words cur new items more result
       → (answer : Result answered.Answer NoMemory) → Gives of_unit result answer → Ends new more answer
@@ -598,7 +682,7 @@ module _ {H F : Type 0} (shelf_seen : H → ShelfView F) (seen : F → FileView)
     vid = refl;
     named = named;
     words = λ word. refl;
-    counts = omega arith;
+    lasts = lasts_same shelf_seen seen (standing first);
     opened = λ word unit found. inl (there word (ap is_some found));
     before = λ item h. absurd h;
     own = λ item h. absurd h;
@@ -606,6 +690,7 @@ module _ {H F : Type 0} (shelf_seen : H → ShelfView F) (seen : F → FileView)
     stands = λ written units stands. stands;
     in_doubt = λ written units stands item h. absurd h;
     kept = first_kept named;
+    moments = λ written units stands. crash_none shelf_seen seen written units (standing first) stands;
     all = λ written units stands q at some.
         let made = doubt_made written units stands q at some in
         inl (there (packed (name_at first.vid q)) (ap is_some (made_at shelf_seen seen (standing first) written units stands q at (stands.named q at made) made).found));
@@ -625,7 +710,8 @@ module _ {H F : Type 0} (shelf_seen : H → ShelfView F) (seen : F → FileView)
     vid = refl;
     words = λ word. refl;
     counts = omega arith;
-    told = λ written units stands. (record { restarts = stands; order = tt; in_doubt = λ item h. absurd h }, first_kept named written units stands);
+    lasts = lasts_same shelf_seen seen (standing first);
+    told = λ written units stands. (record { restarts = stands; order = tt; own = λ item h. absurd h; in_doubt = λ item h. absurd h }, first_kept named written units stands, crash_none shelf_seen seen written units (standing first) stands, λ clear. clear);
   }
 
   pub restart_ends : (new : TableOver F) (more : List Settled) (result : Result (Unit {0}) ChunkFault) (answer : Result answered.Answer NoMemory) → StartsAll seen first new [] more result → Gives of_unit result answer → Ends new more answer
@@ -639,3 +725,6 @@ module _ {H F : Type 0} (shelf_seen : H → ShelfView F) (seen : F → FileView)
 
   pub restarted : (new : TableOver F) (items : List Settled) (answer : Result answered.Answer NoMemory) → Ends new items answer → Restarted shelf_seen seen items answer (standing first) (standing new)
   restarted new items answer ends = inr (refl, ends.told)
+
+  pub restart_lasts : (new : TableOver F) (items : List Settled) (answer : Result answered.Answer NoMemory) → Ends new items answer → Outlasts shelf_seen seen (standing first) (standing new)
+  restart_lasts new items answer ends = ends.lasts

@@ -1,6 +1,6 @@
 -- What a station says of a unit, by what it keeps of all.
 use Rattle.std.proofs.Common.{◌≡◌, ◌≢◌, ◌∙◌, sym, ap, refl, subst, ℕ, ◌≤◌, ◌<◌, Bool, true, false, [], ◌∷◌, Option, None, Some, ◌⊎◌, inl, inr, nat_eq, Result, Ok, Err, cond, arith}
-use Rattle.std.specs.Prelude.{◌+◌, sum_by}
+use Rattle.std.specs.Prelude.{◌+◌, sum_by, is_some}
 use Rattle.std.specs.Map.{values_of}
 use Rattle.std.proofs.lemmas.Map.Entries.{sum_by-set_value}
 use Rattle.std.proofs.lemmas.List.Sums.{sum_by-cons}
@@ -18,13 +18,14 @@ use Rattle.disk_base.specs.declared.fault.NoMemory.{NoMemory}
 use Rattle.blob_node.specs.Units.{UnitRecord, Units, with_at}
 use Rattle.blob_node.specs.UnitAnswer.{Effect, IsServed, IsStale, view_at, units_after, settled_at, with_written}
 use Rattle.blob_node.specs.Holding.{Written, item_of, written_after}
-use Rattle.blob_node.specs.HeldUnit.{UnitOver, Held, name_of, disk_of, is_create, settled_by, written_by, ServesBy, FailsToStart, IsFoundReleased, IsServing, CountsAnswer}
+use Rattle.blob_node.specs.HeldUnit.{UnitOver, Held, name_of, disk_of, is_create, settled_by, written_by, ServesBy, FailsToStart, IsFoundReleased, IsServing, ServesThrough, CountsAnswer}
 use Rattle.blob_node.specs.UnitTable.{Entries, TableOver, at_word, unit_at, knows_released, greatest_of, AreNamed, Replaces, ServesIn}
-use Rattle.blob_node.specs.Station.{StationOver, name_at, StandsAt, Stands, file_faults, faults_of, CountsFault, StationCall, AnswersBy, HandlesBy, Handled}
+use Rattle.blob_node.specs.Station.{StationOver, name_at, StandsAt, Stands, file_faults, faults_of, CountsFault, StationCall, LeavesInCall, CrashLeaves, IsClear, AnswersBy, HandlesBy, Handled}
 use Rattle.disk_base.specs.Places.{Place as Slot, Unknown, Absent, Away, Kept, Keeps}
 use Rattle.blob_node.proofs.Lookups.{there_now}
 use Rattle.blob_node.proofs.Holdings.{never_both, record_made}
-use Rattle.blob_node.proofs.Tables.{named_at, name_by_word, no_greater, latest, one_of, at_set, greatest_set, named_set, eq_apart, eq_self}
+use Rattle.blob_node.proofs.Tables.{named_at, name_by_word, no_greater, latest, one_of, at_set, some_set, greatest_set, named_set, eq_apart, eq_self}
+use Rattle.blob_node.proofs.Clearing.{clear_same}
 use Rattle.blob_node.proofs.Standing.{SameAt, same_as_is, same_then, stands_one, after_elsewhere, settled_by_elsewhere}
 use Rattle.blob_node.proofs.Answering.{place_is, vid_is, shows_none, work_answers, serves_other}
 
@@ -302,10 +303,18 @@ module _ {H F : Type 0} (shelf_seen : H → ShelfView F) (seen : F → FileView)
     by_result (Ok answer) (inr (inr is)) = works answer is
     by_result (Err e) is = goes (written_by found (written place)) then is (λ q ne. settled_by_elsewhere place q ne found units)
 
-  pub serve_handles : Handled shelf_seen seen request found result (station_of shelf disk false old) (station_of shelf disk false new)
-  serve_handles = λ written units stands.
+  still_clear : IsClear shelf_seen seen (station_of shelf disk false old) → IsClear shelf_seen seen (station_of shelf disk false new)
+  still_clear = clear_same shelf_seen seen (station_of shelf disk false old) (station_of shelf disk false new) serves.replaces.vid refl
+      (λ word. ap (λ (es : Entries F). is_some (at_word word es)) serves.replaces.units ∙ some_set old.units (packed (name_of request)) serves.was serves.now serves.replaces.found word)
+
+  pub serves_through : (written : Place → Written) (units : Units) → Stands shelf_seen seen (station_of shelf disk false old) written units → ServesThrough seen request (written place) units place found serves.was serves.now
+  serves_through written units stands = (serves.served (written place) units place (held written units stands)).3
+
+  pub serve_handles : ((written : Place → Written) (units : Units) → Stands shelf_seen seen (station_of shelf disk false old) written units → CrashLeaves shelf_seen seen (station_of shelf disk false old) (station_of shelf disk false new) (LeavesInCall shelf_seen seen request written units found (station_of shelf disk false old)))
+      → Handled shelf_seen seen request found result (station_of shelf disk false old) (station_of shelf disk false new)
+  serve_handles moments = λ written units stands.
       let s = serves.served (written place) units place (held written units stands) in
-      record { handles = by_result written units stands result s.0; was_in_doubt = s.1; was_shut = s.2 }
+      record { handles = by_result written units stands result s.0; was_in_doubt = s.1; was_shut = s.2; moments = moments written units stands; clear = still_clear }
 
 rises_by : (result : Result answered.Answer NoMemory) (before now : ℕ) → CountsAnswer before now result → result ≡ Ok answers.Fault → Rose before now
 rises_by result before now counts is = subst (CountsAnswer before now) is counts

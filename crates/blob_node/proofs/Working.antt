@@ -1,6 +1,7 @@
 -- From what a chunk does by its plan to what the unit answers and stands for.
-use Rattle.std.proofs.Common.{◌≡◌, ◌∙◌, sym, ap, refl, subst, ℕ, Bool, true, false, [], ◌∷◌, ◌++◌, Option, None, Some, Result, Ok, Err}
+use Rattle.std.proofs.Common.{◌≡◌, ◌∙◌, sym, ap, refl, subst, ℕ, Bool, true, false, List, [], ◌∷◌, ◌++◌, Option, None, Some, Result, Ok, Err, inl, inr}
 use Rattle.std.specs.Prelude.{option_map, ◌||◌, not, ◌&&◌, IsErr}
+use Rattle.unit_id.specs.UnitName.{Name}
 use Rattle.unit_id.specs.Place.{Place}
 use Rattle.unit_id.specs.Request as asked
 use Rattle.unit_id.specs.Messages.{request_of, answer_of}
@@ -8,15 +9,15 @@ use Rattle.unit_id.specs.declared.request.Request as sent
 use Rattle.unit_id.specs.declared.answer.Answer as answered
 use Rattle.unit_id.specs.declared.answer.Answer.TheVariants as answers
 use Rattle.unit_id.proofs.Bools.{or_none}
-use Rattle.disk_base.specs.Disk.{FileView, IsFile}
-use Rattle.disk_base.specs.Moments.{lasts_none}
+use Rattle.disk_base.specs.Disk.{FileView, IsFile, IsWithin, LeavesExactly}
+use Rattle.disk_base.specs.Moments.{lasts_none, at_start, weaker}
 use Rattle.disk_base.specs.declared.fault.NoMemory.{NoMemory}
 use Rattle.shard_record.specs.Rows.{Row, Rows, rows_after, row_at}
 use Rattle.shard_record.specs.Rows as rows
 use Rattle.shard_record.specs.declared.record.ShardRecord.{ShardRecord}
 use Rattle.chunk_store.specs.Kept.{KeptRows, row_of, kind_of, kept_after}
-use Rattle.chunk_store.specs.Records.{HasKinds, kind_of_row}
-use Rattle.chunk_store.specs.Chunk.{ChunkOver, shown, IsSound, HasRecords, Plan, refuse, answer, add, Does, Adds, AddEnds, ChunkCall, CountsFault, IsUnwritten}
+use Rattle.chunk_store.specs.Records.{HasKinds, kind_of_row, IsChunkOf, IsWithOrWithout}
+use Rattle.chunk_store.specs.Chunk.{ChunkOver, ChunkView, shown, IsSound, HasRecords, Plan, refuse, answer, add, Does, Adds, AddEnds, ChunkCall, CountsFault, IsUnwritten}
 use Rattle.chunk_store.specs.declared.answer.RowKind.{RowKind}
 use Rattle.chunk_store.specs.declared.answer.RowKind.TheVariants as kinds
 use Rattle.chunk_store.specs.declared.fault.ChunkFault.{ChunkFault}
@@ -26,7 +27,7 @@ use Rattle.chunk_store.proofs.Opened.{told_at}
 use Rattle.blob_node.specs.Units.{RowState, UnitRecord, Units, with_at, with_record}
 use Rattle.blob_node.specs.UnitAnswer.{Effect, Works, view_at, started, with_written, record_of}
 use Rattle.blob_node.specs.Holding.{Written, Holds, IsNew, without_bytes, state_of, item_of, with_item, written_after, ShowsBytes}
-use Rattle.blob_node.specs.HeldUnit.{UnitOver, is_released, Held, record_of_doubt, doubt_by, Refused, Gives, WorksOn, WorksBy, CountsAnswer, UnitCall}
+use Rattle.blob_node.specs.HeldUnit.{UnitOver, is_released, Held, record_of_doubt, doubt_by, Refused, Gives, WorksOn, WorksBy, WorksFrom, LeavesAtWork, WorksThrough, CountsAnswer, UnitCall}
 use Rattle.blob_node.specs.declared.held_unit.Doubt.{Doubt}
 use Rattle.blob_node.proofs.Holdings.{has_still, same_flag, stays, waits, grows, doubts, never_both}
 
@@ -94,6 +95,19 @@ same_state None = refl
 same_state (Some (rows.Live size bytes)) = refl
 same_state (Some rows.Marked) = refl
 same_state (Some rows.Gone) = refl
+
+-- a crash leaves an open chunk's file with its records
+pub image_has : (chunk : ChunkView) (items : List ShardRecord) → HasRecords chunk items → IsWithin chunk.file.images (λ c. IsChunkOf c chunk.unit items)
+image_has chunk items has c left =
+    let at = told_at chunk.file.content (λ file. IsChunkOf file chunk.unit items × LeavesExactly file chunk.file.images) has in
+    subst (λ (file : List ℕ). IsChunkOf file chunk.unit items) (sym (at.holds.1 c left)) at.holds.0
+
+-- nothing was done
+pub through_none : {E : Type 0} (seen : E → FileView) (request : sent.Request) (unit : UnitOver E) (written : Written) (units : Units) (place : Place) → IsFile (seen unit.chunk.log.file) → HasRecords (shown seen unit.chunk) written.items
+    → WorksThrough seen request written units place unit unit
+through_none seen request unit written units place is_file has =
+    at_start (LeavesAtWork request unit.chunk.unit written.items units place) (seen unit.chunk.log.file)
+    (λ c left. inl (image_has (shown seen unit.chunk) written.items has c (is_file.present_alone c left)))
 
 module _ {E : Type 0} (seen : E → FileView) (old new : UnitOver E) (written : Written) (units : Units) (place : Place) (held : Held seen old written units place) (open_ : old.chunk.is_shut ≡ false) (sound : IsSound (shown seen old.chunk)) where
   pub has_old : HasRecords (shown seen old.chunk) written.items
@@ -226,14 +240,40 @@ module _ {E : Type 0} (seen : E → FileView) (old new : UnitOver E) (written : 
             subst (WorksBy seen request written units place new) (sym (says (subst (λ o. Gives f o result) is gives)))
             (started_as a works (same_chunk same (doubted ∙ ap (doubt_by doubt) is ∙ none)))
 
-        pub worked : {T : Type 0} (f : T → answered.Answer) (plan : Plan T) (outcome : Result T ChunkFault) (result : Result answered.Answer NoMemory) → Fitting f plan → Does seen plan old.chunk new.chunk outcome → new.doubt ≡ doubt_by doubt outcome → Gives f outcome result → WorksBy seen request written units place new result
-        worked f (refuse (faults.Fenced lock)) outcome result fits does doubted gives = answered_by f outcome (Err (faults.Fenced lock)) (answers.Fenced lock) result does.0 refl (λ h. h) does.1 doubted gives fits
-        worked f (refuse faults.NotMarked) outcome result fits does doubted gives = answered_by f outcome (Err faults.NotMarked) answers.NotMarked result does.0 refl (λ h. h) does.1 doubted gives fits
-        worked f (refuse _) outcome result fits does doubted gives = absurd fits
-        worked f (answer x) outcome result fits does doubted gives = answered_by f outcome (Ok x) (f x) result does.0 refl (λ h. h) does.1 doubted gives fits
-        worked f (add other x) outcome result fits does doubted gives =
+        through_same : new.chunk ≡ old.chunk → WorksThrough seen request written units place old new
+        through_same same =
+            subst (λ (k : ChunkOver E). WorksThrough seen request written units place old (record new { chunk = k })) (sym same)
+            (through_none seen request old written units place (subst (λ (k : ChunkOver E). IsFile (seen k.log.file)) same is_file) has_old)
+
+        left_by : (file : List ℕ) → WorksAs asked.Answer.Fault Effect.Doubted → IsWithOrWithout old.chunk.unit written.items item file → LeavesAtWork request old.chunk.unit written.items units place file
+        left_by file may (inl without) = inl without
+        left_by file may (inr more) = inr (record {
+          unreleased = not_released;
+          may_write = may;
+          says = subst (λ (o : Option ShardRecord). IsChunkOf file old.chunk.unit (with_item written.items o)) (sym item_is) more;
+        })
+
+        -- at each moment a crash leaves what the plan allows
+        pub through : {T : Type 0} (f : T → answered.Answer) (plan : Plan T) (outcome : Result T ChunkFault) → Fitting f plan → Does seen plan old.chunk new.chunk outcome → WorksThrough seen request written units place old new
+        through f (refuse why) outcome fits does = through_same does.1
+        through f (answer x) outcome fits does = through_same does.1
+        through f (add other x) outcome fits does =
+            let adds = subst (λ (i : ShardRecord). Adds i x (shown seen old.chunk) (shown seen new.chunk) outcome) fits.0 does in
+            weaker (IsWithOrWithout new.chunk.unit written.items item) (LeavesAtWork request old.chunk.unit written.items units place) (seen old.chunk.log.file) (seen new.chunk.log.file) (adds.told written.items has_old).any_moment
+            (λ c is. left_by c fits.2 (subst (λ (u : Name). IsWithOrWithout u written.items item c) adds.unit is))
+
+        worked_by : {T : Type 0} (f : T → answered.Answer) (plan : Plan T) (outcome : Result T ChunkFault) (result : Result answered.Answer NoMemory) → Fitting f plan → Does seen plan old.chunk new.chunk outcome → new.doubt ≡ doubt_by doubt outcome → Gives f outcome result → WorksBy seen request written units place new result
+        worked_by f (refuse (faults.Fenced lock)) outcome result fits does doubted gives = answered_by f outcome (Err (faults.Fenced lock)) (answers.Fenced lock) result does.0 refl (λ h. h) does.1 doubted gives fits
+        worked_by f (refuse faults.NotMarked) outcome result fits does doubted gives = answered_by f outcome (Err faults.NotMarked) answers.NotMarked result does.0 refl (λ h. h) does.1 doubted gives fits
+        worked_by f (refuse _) outcome result fits does doubted gives = absurd fits
+        worked_by f (answer x) outcome result fits does doubted gives = answered_by f outcome (Ok x) (f x) result does.0 refl (λ h. h) does.1 doubted gives fits
+        worked_by f (add other x) outcome result fits does doubted gives =
             by_add f x outcome result (refl, fits.1, fits.2, fits.3, fits.4)
             (adds_up x outcome fits.4 doubted (subst (λ (i : ShardRecord). Adds i x (shown seen old.chunk) (shown seen new.chunk) outcome) fits.0 does)) gives
+
+        pub worked : {T : Type 0} (f : T → answered.Answer) (plan : Plan T) (outcome : Result T ChunkFault) (result : Result answered.Answer NoMemory) → Fitting f plan → Does seen plan old.chunk new.chunk outcome → new.doubt ≡ doubt_by doubt outcome → Gives f outcome result
+            → WorksFrom seen request written units place old new result
+        worked f plan outcome result fits does doubted gives = (worked_by f plan outcome result fits does doubted gives, through f plan outcome fits does)
 
 -- a call by a plan that doesn't find the chunk shut
 abbrev pub IsOpenPlan : {T : Type 0} → Plan T → Type 0

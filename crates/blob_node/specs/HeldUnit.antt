@@ -6,9 +6,11 @@ use Rattle.unit_id.specs.Place.{Place}
 use Rattle.unit_id.specs.Messages.{request_of, answer_of}
 use Rattle.unit_id.specs.UnitName.{Name}
 use Rattle.unit_id.specs.Request.{place_of}
+use Rattle.unit_id.specs.Request as asked
 use Rattle.unit_id.specs.declared.request.Request as sent
 use Rattle.unit_id.specs.declared.request.Request.TheVariants as requests
 use Rattle.shard_record.specs.Spelling.{HasSizes}
+use Rattle.shard_record.specs.declared.record.ShardRecord.{ShardRecord}
 use Rattle.shard_record.specs.declared.record.ShardRecord.TheVariants as records
 use Rattle.unit_id.specs.declared.answer.Answer.TheVariants as answers
 use Rattle.unit_id.specs.declared.answer.Answer as answered
@@ -16,6 +18,7 @@ use Rattle.disk_base.specs.Faults.{Rose}
 use Rattle.disk_base.specs.Disk.{FileView, AtEachMoment, Lasts}
 use Rattle.disk_base.specs.declared.fault.NoMemory.{NoMemory}
 use Rattle.chunk_store.specs.Kept.{KeptRows, row_of, kind_of}
+use Rattle.chunk_store.specs.Records.{IsChunkOf}
 use Rattle.chunk_store.specs.Chunk.{ChunkOver, coded_chunk, shown, IsSound, HasRecords}
 use Rattle.chunk_store.specs.declared.answer.Put.{Put}
 use Rattle.chunk_store.specs.declared.answer.Put.TheVariants as put
@@ -148,9 +151,26 @@ abbrev pub WorksBy : {E : Type 0} → (E → FileView) → sent.Request → Writ
 WorksBy seen request written units place new (Ok answer) = WorksOn seen request written units place answer new
 WorksBy seen request written units place new (Err _) = Held seen new written units place
 
+-- The request's record stands behind those that were written. The unit isn't released, and the request may leave its record in doubt.
+pub record HasOneMore (request : sent.Request) (unit : Name) (items : List ShardRecord) (units : Units) (place : Place) (file : List ℕ) : Type 0 where
+  pub unreleased : units.is_released place ≡ false
+  pub may_write : Works (view_at (λ _. false) units place) (request_of request) asked.Answer.Fault Effect.Doubted
+  pub says : IsChunkOf file unit (with_item items (item_of request))
+
+-- what a crash inside the work leaves of the file: the records that were written, or these with the request's
+abbrev pub LeavesAtWork : sent.Request → Name → List ShardRecord → Units → Place → List ℕ → Type 0
+LeavesAtWork request unit items units place file = IsChunkOf file unit items ⊎ HasOneMore request unit items units place file
+
+abbrev pub WorksThrough : {E : Type 0} → (E → FileView) → sent.Request → Written → Units → Place → UnitOver E → UnitOver E → Type 0
+WorksThrough seen request written units place old new =
+    AtEachMoment (seen old.chunk.log.file) (seen new.chunk.log.file) (LeavesAtWork request old.chunk.unit written.items units place)
+
+abbrev pub WorksFrom : {E : Type 0} → (E → FileView) → sent.Request → Written → Units → Place → UnitOver E → UnitOver E → Result answered.Answer NoMemory → Type 0
+WorksFrom seen request written units place old new result = WorksBy seen request written units place new result × WorksThrough seen request written units place old new
+
 -- whatever the unit stands for before
 abbrev pub Worked : {E : Type 0} → (E → FileView) → sent.Request → UnitOver E → UnitOver E → Result answered.Answer NoMemory → Type 0
-Worked seen request old new result = (written : Written) (units : Units) (place : Place) → Held seen old written units place → WorksBy seen request written units place new result
+Worked seen request old new result = (written : Written) (units : Units) (place : Place) → Held seen old written units place → WorksFrom seen request written units place old new result
 
 -- what calls on the unit's file kept: it fails exactly where the answer is a fault
 abbrev pub CountsAnswer : ℕ → ℕ → Result answered.Answer NoMemory → Type 0
@@ -252,7 +272,8 @@ GoesOnBy seen request have written units place new (Ok answer) =
 GoesOnBy seen request have written units place new (Err _) = Held seen new written units place
 
 abbrev pub GoesOn : {E : Type 0} → (E → FileView) → sent.Request → ℕ → UnitOver E → UnitOver E → Result answered.Answer NoMemory → Type 0
-GoesOn seen request have old new result = (written : Written) (units : Units) (place : Place) → Held seen old written units place → GoesOnBy seen request have written units place new result
+GoesOn seen request have old new result = (written : Written) (units : Units) (place : Place) → Held seen old written units place
+    → GoesOnBy seen request have written units place new result × WorksThrough seen request written units place old new
 
 -- a chunk that is shut and doesn't start gives a fault
 pub record FailsToStart {E : Type 0} (seen : E → FileView) (written : Written) (units : Units) (place : Place) (found : Option Bool) (answer : answered.Answer) (new : UnitOver E) : Type 0 where
@@ -279,7 +300,19 @@ ServesBy seen request have written units place found new (Ok answer) =
     ⊎ (IsFoundReleased seen have written units place found answer new ⊎ IsServing seen request written units place found answer new)
 ServesBy seen request have written units place found new (Err _) = Held seen new (written_by found written) (settled_by place found units) place
 
+-- What a crash inside a request leaves of the file: the records that were written, without the one in doubt or with it, and once that is
+-- settled what a crash inside the work leaves.
+abbrev pub LeavesInside : sent.Request → Name → Written → Units → Place → Option Bool → List ℕ → Type 0
+LeavesInside request unit written units place found file =
+    Says unit written.items written.doubt file
+    ⊎ LeavesAtWork request unit (written_by found written).items (settled_by place found units) place file
+
+abbrev pub ServesThrough : {E : Type 0} → (E → FileView) → sent.Request → Written → Units → Place → Option Bool → UnitOver E → UnitOver E → Type 0
+ServesThrough seen request written units place found old new =
+    AtEachMoment (seen old.chunk.log.file) (seen new.chunk.log.file) (LeavesInside request old.chunk.unit written units place found)
+
 -- a found record was in doubt
 abbrev pub Served : {E : Type 0} → (E → FileView) → sent.Request → ℕ → UnitOver E → UnitOver E → Option Bool → Result answered.Answer NoMemory → Type 0
 Served seen request have old new found result = (written : Written) (units : Units) (place : Place) → Held seen old written units place →
     ServesBy seen request have written units place found new result × (found ≡ Some true → is_some (units.doubt place) ≡ true) × (IsSome found → units.is_shut place ≡ true)
+    × ServesThrough seen request written units place found old new

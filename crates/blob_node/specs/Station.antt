@@ -1,5 +1,5 @@
 -- All units of one volume that one disk keeps, and what a call on them does.
-use Rattle.std.specs.Prelude.{ℕ, ◌≡◌, ◌+◌, ◌^◌, ◌-◌, ◌≤◌, ◌==◌, ◌&&◌, ◌||◌, not, min, sum_by, Bool, true, false, List, [], ◌∷◌, Option, None, Some, is_some, IsSome, Result, Ok, Err}
+use Rattle.std.specs.Prelude.{ℕ, ◌≡◌, ◌+◌, ◌^◌, ◌-◌, ◌≤◌, ◌==◌, ◌&&◌, ◌||◌, not, min, sum_by, Bool, true, false, List, [], ◌∷◌, Option, None, Some, is_some, IsSome, IfSome, IsSomeAnd, option_map, Result, Ok, Err}
 use Rattle.std.specs.Map.{values_of}
 use Rattle.std.specs.Coded.{Coded, code_by, coded×, coded_ℕ, coded_bool, coded_list}
 use Rattle.std.proofs.Common.{◌⊎◌, refl}
@@ -9,17 +9,20 @@ use Rattle.unit_id.specs.Place.{Place, is_place}
 use Rattle.unit_id.specs.Messages.{place_at, request_of, answer_of}
 use Rattle.unit_id.specs.Request.{place_of}
 use Rattle.unit_id.specs.declared.request.Request as sent
+use Rattle.unit_id.specs.declared.request.Request.TheVariants as requests
 use Rattle.unit_id.specs.declared.answer.Answer as answered
 use Rattle.unit_id.specs.declared.answer.Answer.TheVariants as answers
 use Rattle.disk_base.specs.Faults.{Rose}
 use Rattle.disk_base.specs.Disk.{FileView, AtEachMoment}
 use Rattle.disk_base.specs.Places.{Kept, Keeps}
 use Rattle.disk_base.specs.Shelves.{ShelfView}
+use Rattle.disk_base.specs.JointMoments.{Rack, AtEachJointMoment}
 use Rattle.disk_base.specs.declared.fault.NoMemory.{NoMemory}
+use Rattle.chunk_store.specs.Records.{IsChunkOf}
 use Rattle.blob_node.specs.Units.{Units, with_at, with_unit}
 use Rattle.blob_node.specs.UnitAnswer.{Effect, Answers, view_at, units_after, settled}
 use Rattle.blob_node.specs.Holding.{Written, Says, nothing_written, item_of, written_after, ShowsBytes}
-use Rattle.blob_node.specs.HeldUnit.{UnitOver, coded_unit, Held, settled_by, written_by, written_settled}
+use Rattle.blob_node.specs.HeldUnit.{UnitOver, coded_unit, Held, is_create, settled_by, written_by, written_settled, LeavesAtWork}
 use Rattle.blob_node.specs.UnitTable.{Entries, at_word, unit_at}
 use Rattle.blob_node.specs.NewChunk.{HasNoRecords}
 use Rattle.blob_node.specs.declared.settled.Settled.{Settled}
@@ -49,6 +52,10 @@ IsWhole shelf = (name : ℕ) → shelf.is_out name ≡ false
 -- a file is handed out exactly where a unit stands under its name
 abbrev pub AreOut : {F : Type 0} → ShelfView F → Entries F → Type 0
 AreOut shelf units = (word : ℕ) → shelf.is_out word ≡ is_some (at_word word units)
+
+-- the shelf with the files of the units, which are out
+abbrev pub rack_of : {H F : Type 0} → StationOver H F → Rack H F
+rack_of station = record { shelf = station.shelf; out = λ word. option_map (λ unit. unit.chunk.log.file) (at_word word station.units) }
 
 -- ---- records in doubt that a restart settles
 
@@ -83,6 +90,10 @@ all_shut disk units = record units { is_shut = λ place. (place.disk == disk) ||
 -- no name of the volume has a file with records
 abbrev pub IsUnused : {F : Type 0} → (F → FileView) → ℕ → ShelfView F → Type 0
 IsUnused seen vid shelf = (unit : Name) → IsName unit → unit.vid ≡ vid → HasNoRecords seen unit (shelf.place (packed unit))
+
+-- a crash leaves none
+abbrev pub StaysUnused : {F : Type 0} → ℕ → ShelfView F → Type 0
+StaysUnused vid shelf = (unit : Name) → IsName unit → unit.vid ≡ vid → (image : Option (List ℕ)) → shelf.leaves (packed unit) image → IfSome image (λ file. IsChunkOf file unit [])
 
 -- nothing is known of a unit at this place
 pub record IsBare (units : Units) (place : Place) : Type 0 where
@@ -126,11 +137,42 @@ module _ {H F : Type 0} (shelf_seen : H → ShelfView F) (seen : F → FileView)
     pub shelf : (shelf_seen station.shelf).is_quiet ≡ true
     pub files : AreQuiet station.units
 
-  -- What stays or goes up whatever is asked: whether the shelf tells, that no call ever fails, and how often one has failed.
+  -- What stays or goes up whatever is asked: whether the shelf tells and whether it is quiet, that no call ever fails, and
+  -- how often one has failed.
   pub record Outlasts (old new : StationOver H F) : Type 0 where
     pub told : (shelf_seen new.shelf).is_told ≡ (shelf_seen old.shelf).is_told
+    pub still : (shelf_seen new.shelf).is_quiet ≡ (shelf_seen old.shelf).is_quiet
     pub quiet : IsQuiet old → IsQuiet new
     pub faults : faults_of old ≤ faults_of new
+
+  -- ---- what a crash inside a call leaves
+
+  -- under the name of a place: of a unit its records, without the one in doubt or with it, and where none stands what a crash before might have left
+  abbrev pub LeavesRecords : (Place → Written) → StationOver H F → Place → Option (UnitOver F) → Option (List ℕ) → Type 0
+  LeavesRecords written station place (Some unit) image = IsSomeAnd image (Says unit.chunk.unit (written place).items (written place).doubt)
+  LeavesRecords written station place None image = (shelf_seen station.shelf).leaves (packed (name_at station.vid place)) image
+
+  -- under a name without a unit a crash leaves no file, or one without records
+  abbrev pub IsClear : StationOver H F → Type 0
+  IsClear station =
+      (unit : Name) → IsName unit → unit.vid ≡ station.vid → unit_at station.units unit ≡ None
+      → (image : Option (List ℕ)) → (shelf_seen station.shelf).leaves (packed unit) image → IfSome image (λ file. IsChunkOf file unit [])
+
+  -- at each moment from this station to the next, under the name of each place of its disk
+  abbrev pub CrashLeaves : StationOver H F → StationOver H F → (Place → Option (UnitOver F) → Option (List ℕ) → Type 0) → Type 0
+  CrashLeaves old new Leaves =
+      AtEachJointMoment shelf_seen seen
+      (λ image. (place : Place) → place.disk ≡ old.disk → IsName (name_at old.vid place) → Leaves place (unit_at old.units (name_at old.vid place)) (image (packed (name_at old.vid place))))
+      (rack_of old) (rack_of new)
+
+  module _ (request : sent.Request) (written : Place → Written) (units : Units) (found : Option Bool) (station : StationOver H F) where
+    -- what the request may leave where it is asked: of a unit its records, with the request's or without it, and of one that is to be made a file without records
+    abbrev pub LeavesAsked : Place → Option (UnitOver F) → Option (List ℕ) → Type 0
+    LeavesAsked place (Some unit) image = IsSomeAnd image (LeavesAtWork request unit.chunk.unit (written_by found (written place)).items (settled_by place found units) place)
+    LeavesAsked place None image = (is_create request ≡ true) × IsSomeAnd image (λ file. IsChunkOf file (name_at station.vid place) [])
+
+    abbrev pub LeavesInCall : Place → Option (UnitOver F) → Option (List ℕ) → Type 0
+    LeavesInCall place unit image = LeavesRecords written station place unit image ⊎ ((place ≡ place_of (request_of request)) × LeavesAsked place unit image)
 
   -- ---- a request
 
@@ -160,11 +202,14 @@ module _ {H F : Type 0} (shelf_seen : H → ShelfView F) (seen : F → FileView)
   HandlesBy request written units found (Err _) old new =
       Stands new (with_at (place_of (request_of request)) (written_by found (written (place_of (request_of request)))) written) (settled_by (place_of (request_of request)) found units)
 
-  -- A shut chunk was started where `found` is there, and it says whether a record that was in doubt was written.
+  -- A shut chunk was started where `found` is there, and it says whether a record that was in doubt was written. A crash at any moment leaves
+  -- each unit its records, and at most one unit one record more.
   pub record Handles (request : sent.Request) (written : Place → Written) (units : Units) (found : Option Bool) (result : Result answered.Answer NoMemory) (old new : StationOver H F) : Type 0 where
     pub handles : HandlesBy request written units found result old new
     pub was_in_doubt : found ≡ Some true → is_some (units.doubt (place_of (request_of request))) ≡ true
     pub was_shut : IsSome found → units.is_shut (place_of (request_of request)) ≡ true
+    pub moments : CrashLeaves old new (LeavesInCall request written units found old)
+    pub clear : IsClear old → IsClear new
 
   -- whatever the station stands for before
   abbrev pub Handled : sent.Request → Option Bool → Result answered.Answer NoMemory → StationOver H F → StationOver H F → Type 0
@@ -181,7 +226,8 @@ module _ {H F : Type 0} (shelf_seen : H → ShelfView F) (seen : F → FileView)
   CreatesBy place written units (Err _) new = Stands new written units
 
   abbrev pub Created : Name → Result answered.Answer NoMemory → StationOver H F → StationOver H F → Type 0
-  Created unit result old new = (written : Place → Written) (units : Units) → Stands old written units → CreatesBy (place_at unit old.disk) written units result new
+  Created unit result old new = (written : Place → Written) (units : Units) → Stands old written units
+      → CreatesBy (place_at unit old.disk) written units result new × CrashLeaves old new (LeavesInCall (requests.Create unit old.disk) written units None old) × (IsClear old → IsClear new)
 
   -- ---- a restart
 
@@ -197,6 +243,7 @@ module _ {H F : Type 0} (shelf_seen : H → ShelfView F) (seen : F → FileView)
   pub record Restarts (written : Place → Written) (units : Units) (items : List Settled) (result : Result answered.Answer NoMemory) (new : StationOver H F) : Type 0 where
     pub restarts : RestartsBy written units items result new
     pub order : AreInOrder items
+    pub own : (item : Settled) → IsIn item items → item.unit.vid ≡ new.vid
     pub in_doubt : (item : Settled) → IsIn item items → is_some (units.doubt (place_at item.unit new.disk)) ≡ true
 
   -- a unit of this word is there again, and at each moment in between a crash leaves of its file its records, without the one in doubt or with it
@@ -213,7 +260,8 @@ module _ {H F : Type 0} (shelf_seen : H → ShelfView F) (seen : F → FileView)
   abbrev pub Restarted : List Settled → Result answered.Answer NoMemory → StationOver H F → StationOver H F → Type 0
   Restarted items result old new =
       ((old.is_broken ≡ true) × (items ≡ []) × (result ≡ Ok answers.Done) × (new ≡ old))
-      ⊎ ((old.is_broken ≡ false) × ((written : Place → Written) (units : Units) → Stands old written units → Restarts written units items result new × AreKept written old new))
+      ⊎ ((old.is_broken ≡ false) × ((written : Place → Written) (units : Units) → Stands old written units
+      → Restarts written units items result new × AreKept written old new × CrashLeaves old new (LeavesRecords written old) × (IsClear old → IsClear new)))
 
   -- ---- the shelf in the end
 

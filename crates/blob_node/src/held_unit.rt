@@ -128,7 +128,8 @@ impl<E: Extent> HeldUnit<E> {
     /// Answers a request to the unit, which isn't a create. The unit isn't known to be released. A shut chunk is
     /// started first, which settles a record in doubt, and the first part of the result says whether it was found;
     /// it is None where no chunk was started. A unit that is so found released answers `Stale` with `have`, the
-    /// greatest epoch of its index on this disk.
+    /// greatest epoch of its index on this disk. A crash at any moment leaves the file's records, without the one in
+    /// doubt or with it, and once that is settled these or with the request's own.
     ///
     /// # Errors
     ///

@@ -10,15 +10,17 @@
 //!
 //! `Station` is all units of one volume on one disk, over a shelf: it makes units, finds them by a hash of their names
 //! and answers each request by the protocol's relation. A restart starts all of them in turn and tells what it found of
-//! records in doubt (`Settled`). `specs/Station` says what a station stands for over a shelf that tells, and what a
-//! request and a restart leave; `specs/Starting` has the starts one after the other. `Link` plans by disk what happens
-//! to messages.
+//! records in doubt (`Settled`). `specs/Station` says what a station stands for over a shelf that tells, what a request
+//! and a restart leave, and what a crash at any moment inside leaves of the shelf and its files together;
+//! `specs/Starting` has the starts one after the other. `Link` plans by disk what happens to messages.
 //!
 //! Public: `HeldUnit` with `over`, `start`, `serve`, `unit`, `is_released`, `is_in_doubt`, `is_shut` and `into_chunk`;
 //! `Station` with `make`, `handle`, `restart`, `unit`, `is_broken`, `disk`, `vid`, `break_down` and `into_shelf`;
 //! `Settled`; `Link` with `make`, `plan`, `peek` and `next`; `Fate`; the laws of `laws`.
 #![tactic(auto)]
 
+#[cfg(test)]
+mod crash_tests;
 mod fate;
 mod hand_back;
 mod held_unit;

@@ -2,7 +2,7 @@
 
 ghost use Rattle.std.specs.Prelude.{◌≡◌, false};
 ghost use Rattle.unit_id.specs.UnitName.{packed};
-ghost use Rattle.blob_node.specs.NewChunk.{Lends, StartsNew};
+ghost use Rattle.blob_node.specs.NewChunk.{Lends, StartsNew, TriesThrough, lent_file, chunk_file};
 
 use chunk_store::{Chunk, ChunkFault};
 use disk_base::{Shelf, ShelfFault};
@@ -17,7 +17,8 @@ pub(crate) fn new_chunk<H: Shelf>(
     unit: UnitName,
 ) -> Result<Chunk<H::File>, ChunkFault>
     requires { (H.seen shelf.old).is_out (packed unit) ≡ false }
-    ensures { StartsNew H.File.seen unit (H.seen shelf.old) (H.seen shelf.new) result }
+    ensures starts { StartsNew H.File.seen unit (H.seen shelf.old) (H.seen shelf.new) result }
+    ensures moments { TriesThrough H.seen H.File.seen unit shelf.old shelf.new (chunk_file result) }
 {
     let file = match lend(alloc, shelf, unit) {
         Ok(file) => file,
@@ -38,7 +39,8 @@ pub(crate) fn new_chunk<H: Shelf>(
 // The file of a unit: a new one, or the one that is there.
 fn lend<H: Shelf>(alloc: Global, shelf: &mut H, unit: UnitName) -> Result<H::File, ShelfFault>
     requires { (H.seen shelf.old).is_out (packed unit) ≡ false }
-    ensures { Lends H.File.seen unit (H.seen shelf.old) (H.seen shelf.new) result }
+    ensures lends { Lends H.File.seen unit (H.seen shelf.old) (H.seen shelf.new) result }
+    ensures moments { TriesThrough H.seen H.File.seen unit shelf.old shelf.new (lent_file result) }
 {
     let word = unit.pack();
     match shelf.make(alloc, word) {

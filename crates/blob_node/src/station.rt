@@ -9,7 +9,7 @@ ghost use Rattle.unit_id.specs.Place.{Place};
 ghost use Rattle.blob_node.specs.Holding.{Written};
 ghost use Rattle.blob_node.specs.HeldUnit.{name_of, is_create, disk_of, CarriesShard};
 ghost use Rattle.blob_node.specs.UnitTable.{unit_at};
-ghost use Rattle.blob_node.specs.Station.{IsWhole, IsUnused, HasNone, Stands, StationCall, Handled, Restarted, IsHandedBack, Created, CountsFault, faults_of, IsQuiet, Outlasts};
+ghost use Rattle.blob_node.specs.Station.{IsWhole, IsUnused, StaysUnused, IsClear, HasNone, Stands, StationCall, Handled, Restarted, IsHandedBack, Created, CountsFault, faults_of, IsQuiet, Outlasts};
 
 use crate::HeldUnit;
 use crate::hand_back::hand_back;
@@ -57,11 +57,12 @@ impl<H: Shelf> Model for Station<H> {
 impl<H: Shelf> Station<H> {
     /// The station of a volume on a disk, with no unit, over a shelf with no file handed out. It takes no memory and
     /// makes no call on the shelf. Over a shelf that tells, on which no name of the volume has a file with records,
-    /// it stands for nothing.
+    /// it stands for nothing; where a crash leaves no records there, it leaves none under a name without a unit.
     pub fn make(alloc: Global, shelf: H, vid: u32, disk: u32) -> Station<H>
         requires { IsWhole (H.seen shelf) }
         ensures parts { result ≡ record { shelf = shelf; vid = vid; disk = disk; is_broken = false; units = [] } }
         ensures quiet { (H.seen shelf).is_quiet ≡ true → IsQuiet H.seen H.File.seen result }
+        ensures clear { StaysUnused vid (H.seen shelf) → IsClear H.seen H.File.seen result }
         ensures told { (H.seen shelf).is_told ≡ true → IsUnused H.File.seen vid (H.seen shelf) → (written : Place → Written) (units : Units) → HasNone disk units → Stands H.seen H.File.seen result written units }
     {
         Station {
@@ -110,7 +111,9 @@ impl<H: Shelf> Station<H> {
 
     /// Answers a request to a unit of this volume on this disk. A broken station answers `Broken`. A unit that was
     /// released here, or followed by one with a greater epoch, is stale. A shut chunk is started first, and then the
-    /// first part of the result says whether its record in doubt was found; it is None where no chunk was started.
+    /// first part of the result says whether its record in doubt was found; it is None where no chunk was started. A
+    /// crash at any moment leaves each unit its records, and at most the unit that is asked one record more; a unit
+    /// that is to be made has no file then, or one without records.
     ///
     /// # Errors
     ///
@@ -153,6 +156,7 @@ impl<H: Shelf> Station<H> {
     pub fn restart(&mut self) -> (Vec<Settled>, Result<Answer, NoMemory>)
         ensures call { StationCall H.seen H.File.seen self.old self.new result.1 }
         ensures told { Restarted H.seen H.File.seen result.0.items result.1 self.old self.new }
+        ensures lasts { Outlasts H.seen H.File.seen self.old self.new }
     {
         let mut settled = Vec::new(self.alloc);
         if self.is_broken {

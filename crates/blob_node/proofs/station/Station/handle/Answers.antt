@@ -10,7 +10,7 @@ use Rattle.blob_node.specs.UnitTable.{Entries, at_word, unit_at, knows_released,
 use Rattle.blob_node.specs.Station.{StationOver, StationCall, Handled, Created, Outlasts}
 use Rattle.blob_node.proofs.Tables.{some_set}
 use Rattle.blob_node.proofs.Serving.{station_of, serve_handles, serve_call}
-use Rattle.blob_node.proofs.Handling.{broken, stale, no_unit, created, not_less}
+use Rattle.blob_node.proofs.Handling.{broken, stale, no_unit, created, not_less, serve_moments}
 use Rattle.blob_node.proofs.Lasting.{lasts_replaced}
 use Rattle.blob_node.proofs.station.Station.handle.Goals as goal
 
@@ -101,11 +101,13 @@ returns-clause-told g c =
     let have_is : c.greatest-have.result ≡ greatest_of station.units (name_of request).index = c.greatest-have.ensures.epoch ∙ ap (λ (n : Name). greatest_of station.units n.index) (c.unit.view_is ∙ is) in
     let after = c.serve.new.self in
     let both = or_none (nat_lt (name_of request).epoch (greatest_of station.units (name_of request).index)) (knows_released (unit_at station.units (name_of request))) (sym test ∙ c.if-is_stale.false) in
+    let serves = subst (λ (n : Name). ServesIn seen (packed n) request c.greatest-have.result c.self.inside.units after c.serve.result.0 c.serve.result.1) is c.serve.ensures in
     subst (λ (s : StationOver g.row.H.Denot g.row.H-File.Denot). Handled sees seen request c.serve.result.0 c.serve.result.1 s (station_of c.self.inside.shelf c.self.inside.disk c.self.inside.is_broken after)) c.self.view_is
     (subst (λ b. Handled sees seen request c.serve.result.0 c.serve.result.1 (station_of c.self.inside.shelf c.self.inside.disk b c.self.inside.units) (station_of c.self.inside.shelf c.self.inside.disk b after)) (sym c.if-self.false)
     (serve_handles sees seen c.self.inside.shelf c.self.inside.disk c.self.inside.units after request c.greatest-have.result c.serve.result.0 c.serve.result.1 named name own at (sym c.is_create.ensures ∙ c.if-is_create.false) have_is
     (not_less c.greatest-have.result (name_of request).epoch (greatest_of station.units (name_of request).index) have_is both.0) both.1
-    (subst (λ (n : Name). ServesIn seen (packed n) request c.greatest-have.result c.self.inside.units after c.serve.result.0 c.serve.result.1) is c.serve.ensures)))
+    serves (serve_moments sees seen c.self.inside.shelf c.self.inside.disk c.self.inside.units after request c.greatest-have.result c.serve.result.0 c.serve.result.1 named name own at (sym c.is_create.ensures ∙ c.if-is_create.false) have_is
+    (not_less c.greatest-have.result (name_of request).epoch (greatest_of station.units (name_of request).index) have_is both.0) both.1 serves (g.met.H.File.Extent.is_file serves.now.chunk.log.file))))
 
 pub returns-clause-lasts : goal.returns-clause-lasts
 returns-clause-lasts g c =
