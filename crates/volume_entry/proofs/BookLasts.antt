@@ -1,7 +1,10 @@
 -- By how much the end of a log moves on.
-use Rattle.std.proofs.Common.{◌≡◌, sym, subst, ℕ, ◌≤◌, ◌+◌, Bool, true, false, Option, None, Some, Ok, Err, arith}
+use Rattle.std.proofs.Common.{◌≡◌, sym, refl, subst, ℕ, ◌≤◌, ◌+◌, Bool, true, false, Option, None, Some, Result, Ok, Err, arith}
+use Rattle.std.specs.Prelude.{IfSome}
+use Rattle.disk_base.specs.Disk.{FileView}
 use Rattle.gate_log.specs.GateLog.{LogView, AppendAnswers}
-use Rattle.volume_entry.specs.Book.{AppendEnds, GrowsUpTo, EndGrows, end_unless}
+use Rattle.volume_entry.specs.Manager.{ManagerRecord}
+use Rattle.volume_entry.specs.Book.{BookOver, AppendEnds, WriteEnds, GrowsUpTo, EndGrows, LeavesEnd, end_unless}
 use Rattle.volume_entry.specs.declared.fault.EntryFault.{EntryFault}
 use Rattle.volume_entry.specs.declared.fault.EntryFault.TheVariants as faults
 
@@ -25,3 +28,22 @@ grows_unless true size old new small grows = tt
 grows_unless false size old None small grows = tt
 grows_unless false size None (Some end) small grows = absurd grows
 grows_unless false size (Some place) (Some end) small grows = omega (arith, small, grows)
+
+-- ---- after an error
+
+-- an end is where it is
+pub leaves_same : (end : Option ℕ) → IfSome end (λ place. end ≡ Some place)
+leaves_same None = tt
+leaves_same (Some place) = refl
+
+pub leaves_equal : (old new : Option ℕ) → new ≡ old → IfSome new (λ place. old ≡ Some place)
+leaves_equal old new same = subst (λ end. IfSome end (λ place. old ≡ Some place)) (sym same) (leaves_same old)
+
+-- a write that failed shuts the log, and one that wanted memory leaves it
+pub write_leaves : {E : Type 0} (seen : E → FileView) (item : ManagerRecord) (old new : BookOver E) (result : Result (Unit {0}) EntryFault) → WriteEnds seen item old new result
+    → LeavesEnd old.log.end new.log.end result
+write_leaves seen item old new (Ok done) ends = tt
+write_leaves seen item old new (Err faults.Fault) ends = subst (λ end. IfSome end (λ place. old.log.end ≡ Some place)) (sym ends.1) tt
+write_leaves seen item old new (Err faults.Memory) ends = leaves_equal old.log.end new.log.end ends.1
+write_leaves seen item old new (Err faults.Shut) ends = absurd ends
+write_leaves seen item old new (Err (faults.Spoiled place)) ends = absurd ends

@@ -22,6 +22,7 @@ use Rattle.volume_entry.specs.declared.fault.EntryFault.{EntryFault}
 use Rattle.volume_entry.specs.declared.fault.EntryFault.TheVariants as faults
 use Rattle.volume_entry.proofs.OneSpelling.{one_to_one}
 use Rattle.volume_entry.proofs.NamedUnits.{named_first}
+use Rattle.volume_entry.proofs.PlacedUnits.{placed_first}
 use Rattle.volume_entry.proofs.SoundParts.{sound_after}
 use Rattle.volume_entry.proofs.LogEnds.{reads_keep}
 use Rattle.volume_entry.proofs.BookEnds.{log_says}
@@ -43,6 +44,7 @@ sound_first shape place homes m some first is = subst (IsSoundPart (shape_of sha
   moves = omega arith;
   named = named_first (shape_of shape) homes first;
   moves_named = λ t i. absurd i;
+  placed = placed_first shape homes first;
   greatest = λ i below. let e = greatest_first homes i in let h = (first.epochs i below).1 in omega (arith, e, h);
   version = some;
   granted = omega arith;

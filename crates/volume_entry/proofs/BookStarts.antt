@@ -11,6 +11,7 @@ use Rattle.volume_entry.specs.HeardMemory.{HeardMemory}
 use Rattle.volume_entry.specs.Manager.{ManagerRecord, Manager, IsLegal, IsLog, written}
 use Rattle.volume_entry.specs.Spelling.{Spells}
 use Rattle.volume_entry.specs.TableParts.{shape_of}
+use Rattle.volume_entry.proofs.BookLasts.{leaves_same}
 use Rattle.volume_entry.specs.Book.{BookOver, end_unless, AreSpelled, SaysRecords, MayHaveRecord, Keeps, CountsFault, IsSoundPart}
 use Rattle.volume_entry.specs.BookStart.{StartAnswers, IsStartOf, IsStartCause, is_behind, ends_differ, shut_after, found_part, Started, StartsBook, IsForgetful, last_start}
 use Rattle.volume_entry.specs.declared.shape.Shape.{Shape}
@@ -216,21 +217,26 @@ module _ {E : Type 0} (seen : E → FileView) (vid : ℕ) (shape : Shape) (befor
 
 -- ---- a whole start of a book
 
--- an end that stays leaves a sound part
-pub sound_still : (shape : Shape) (was end : Option ℕ) (part : Manager) (why : EntryFault) (flag : Bool) → flag ≡ shut_after why was end → IsSoundPart (shape_of shape) was part → IsSoundPart (shape_of shape) (end_unless flag end) part
-sound_still shape was end part why true is sound = record { homes = sound.homes; moves = sound.moves; named = sound.named; moves_named = sound.moves_named; greatest = sound.greatest; version = tt; granted = tt }
-sound_still shape was end part why false is sound = subst (λ o. IsSoundPart (shape_of shape) o part) (same why was end is) sound
+-- a log that isn't shut ends where it did
+same_end : (why : EntryFault) (was end : Option ℕ) → false ≡ shut_after why was end → was ≡ end
+same_end faults.Memory (Some a) (Some b) h = ap Some (one_place a b h)
   where
     one_place : (a b : ℕ) → false ≡ not (a == b) → a ≡ b
     one_place a b h = grind (arith, nat_tests, h)
+same_end faults.Memory None end h = cc
+same_end faults.Memory (Some a) None h = cc
+same_end faults.Fault was end h = cc
+same_end faults.Shut was end h = cc
+same_end (faults.Spoiled place) was end h = cc
 
-    same : (why : EntryFault) (was end : Option ℕ) → false ≡ shut_after why was end → was ≡ end
-    same faults.Memory (Some a) (Some b) h = ap Some (one_place a b h)
-    same faults.Memory None end h = cc
-    same faults.Memory (Some a) None h = cc
-    same faults.Fault was end h = cc
-    same faults.Shut was end h = cc
-    same (faults.Spoiled place) was end h = cc
+-- an end that stays leaves a sound part
+pub sound_still : (shape : Shape) (was end : Option ℕ) (part : Manager) (why : EntryFault) (flag : Bool) → flag ≡ shut_after why was end → IsSoundPart (shape_of shape) was part → IsSoundPart (shape_of shape) (end_unless flag end) part
+sound_still shape was end part why true is sound = record { homes = sound.homes; moves = sound.moves; named = sound.named; moves_named = sound.moves_named; placed = sound.placed; greatest = sound.greatest; version = tt; granted = tt }
+sound_still shape was end part why false is sound = subst (λ o. IsSoundPart (shape_of shape) o part) (same_end why was end is) sound
+
+left_end : (was end : Option ℕ) (why : EntryFault) (flag : Bool) → flag ≡ shut_after why was end → IfSome (end_unless flag end) (λ place. was ≡ Some place)
+left_end was end why true is = tt
+left_end was end why false is = subst (λ o. IfSome end (λ place. o ≡ Some place)) (sym (same_end why was end is)) (leaves_same end)
 
 module _ {E : Type 0} (seen : E → FileView) (vid : ℕ) (shape : Shape) (before after : LogOver E) (old new : Manager) (at : Option ℕ) (was_shut : Bool) (part_in : Table × HeardMemory → Manager) where
   pub starts_ok : (found : Table × HeardMemory) (flag : Bool) → flag ≡ is_behind after.end at → (heard : HeardMemory)
@@ -241,6 +247,7 @@ module _ {E : Type 0} (seen : E → FileView) (vid : ℕ) (shape : Shape) (befor
     vid = refl;
     shape = refl;
     counts = counts;
+    end = tt;
     heard = forgets;
     told = λ part is_shut doubt k. started_ok seen vid shape before after old new at was_shut part is_shut doubt k part_in found flag is told;
   }
@@ -259,6 +266,7 @@ module _ {E : Type 0} (seen : E → FileView) (vid : ℕ) (shape : Shape) (befor
     vid = refl;
     shape = refl;
     counts = counts_as why (seen before.file).faults (seen after.file).faults counts;
+    end = left_end (end_unless was_shut before.end) after.end why flag is;
     heard = tt;
     told = λ part is_shut doubt k. started_err seen vid shape before after old new at was_shut part is_shut doubt k part_in why flag is cause told;
   }

@@ -1,5 +1,5 @@
 -- Which answers a step gives, whatever the file tells.
-use Rattle.std.proofs.Common.{ℕ, Bool, true, List, ◌∷◌, [], Option, Some, Err}
+use Rattle.std.proofs.Common.{ℕ, Bool, true, List, ◌∷◌, [], Some, Err}
 use Rattle.unit_id.specs.declared.targets.Target.{Target}
 use Rattle.gate_log.specs.GateLog.{LogView}
 use Rattle.unit_id.specs.Lists.{is_in}
@@ -7,8 +7,7 @@ use Rattle.volume_entry.specs.Manager.{Manager}
 use Rattle.volume_entry.specs.ManagerStep.{lease_tests, lease_refusal, ask_refusal, lock_tests, lock_refusal, retarget_tests, retarget_refusal}
 use Rattle.volume_entry.specs.Reply.{Reply}
 use Rattle.volume_entry.specs.Book.{AppendEnds, IsWriteFault}
-use Rattle.volume_entry.specs.Entry.{reply_of, RefusesBy, MayAnswer, AnswersAs}
-use Rattle.volume_entry.specs.declared.event.ManagerEvent.{ManagerEvent}
+use Rattle.volume_entry.specs.Entry.{reply_of, RefusesBy, MayAnswer}
 use Rattle.volume_entry.specs.declared.event.ManagerEvent.TheVariants as events
 use Rattle.volume_entry.specs.declared.event.ManagerReply.{ManagerReply}
 use Rattle.volume_entry.specs.declared.fault.EntryFault.{EntryFault}
@@ -20,12 +19,6 @@ pub append_named : (fault : EntryFault) (old new : LogView) → AppendEnds old n
 append_named faults.Fault old new ends = tt
 append_named faults.Memory old new ends = tt
 append_named _ old new ends = absurd ends
-
-pub unwritten_answers : (event : ManagerEvent) (end : Option ℕ) (why : EntryFault) → IsWriteFault why → AnswersAs event end (Err why)
-unwritten_answers event end faults.Fault is = tt
-unwritten_answers event end faults.Memory is = tt
-unwritten_answers event end faults.Shut is = absurd is
-unwritten_answers event end (faults.Spoiled place) is = absurd is
 
 -- what is refused at once
 module _ (m : Manager) (reply : ManagerReply) where

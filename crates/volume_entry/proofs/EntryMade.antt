@@ -2,7 +2,7 @@
 use Rattle.std.proofs.Common.{◌≡◌, ◌∙◌, sym, ap, refl, subst, ℕ, zero, suc, ◌+◌, ◌*◌, ◌<◌, ◌≤◌, Bool, false, List, [], ◌∷◌, length, replicate, Option, None, Some, Result, Ok, Err, IfSome, IsSome, IsSomeAnd, inl, arith}
 use Rattle.std.specs.List.{flat_map}
 use Rattle.std.proofs.lemmas.List.{length-append}
-use Rattle.disk_base.specs.Disk.{FileView}
+use Rattle.disk_base.specs.Disk.{FileView, Lasts}
 use Rattle.unit_id.specs.Place.{Location}
 use Rattle.gate_log.specs.LogFile.{Contents, holds, bad_head, bad_chain, contents_of, bodies_of, end_place, IsLogOf, IsSameOrOpen}
 use Rattle.gate_log.specs.LogLaws.{start_keeps}
@@ -14,10 +14,10 @@ use Rattle.volume_entry.specs.Manager.{ManagerRecord, Manager, AreFirstHomes, fr
 use Rattle.volume_entry.specs.Spelling.{Spells, fields_of, home_bytes}
 use Rattle.volume_entry.specs.TableParts.{shape_of}
 use Rattle.volume_entry.specs.HeardMemory.{HeardMemory}
-use Rattle.volume_entry.specs.Book.{BookOver, Keeps, IsSoundPart, CountsFault, HasRoomFor, item_size}
+use Rattle.volume_entry.specs.Book.{BookOver, Keeps, IsSoundPart, CountsFault, GrowsUpTo, HasRoomFor, item_size}
 use Rattle.volume_entry.specs.BookStart.{IsForgetful, fault_by_start}
 use Rattle.volume_entry.specs.Entry.{EntryOver, Stands, is_broken}
-use Rattle.volume_entry.specs.Making.{IsNew, Makes, Opens, Begins}
+use Rattle.volume_entry.specs.Making.{IsNew, Makes, Opens, Begins, last_first_end}
 use Rattle.volume_entry.specs.declared.shape.Shape.{Shape}
 use Rattle.volume_entry.specs.declared.fault.EntryFault.TheVariants as faults
 use Rattle.volume_entry.proofs.SoundParts.{few_units}
@@ -42,6 +42,14 @@ module _ (vid : ℕ) (shape : Shape) (homes : List Location) (first : AreFirstHo
   made_room = subst (λ i. HasRoomFor (item_size vid shape.mode i) (Some (end_place []))) (sym is) (
       let s = made_size vid shape.mode homes in (omega (arith, s, count), omega (arith, s, count))
       )
+
+  -- .. and so is a log that has only it
+  pub early_end : (end : Option ℕ) → GrowsUpTo (5 + item_size vid shape.mode item) (Some (end_place [])) end → IfSome end (λ place. place ≤ last_first_end)
+  early_end None grows = tt
+  early_end (Some place) grows =
+      let s = ap (item_size vid shape.mode) is ∙ made_size vid shape.mode homes in
+      let n = count in
+      omega (arith, grows, s, n)
 
 -- ---- a log over a new file
 
@@ -124,16 +132,20 @@ module _ {E : Type 0} (seen : E → FileView) (vid : ℕ) (shape : Shape) (homes
       heard = forgets (fresh_manager homes) refl refl (sym (ap (λ (p : Manager). p.lock) is));
     }
 
-    pub made_ok : CountsFault {T = Unit {0}} (seen file).faults (seen log.file).faults (Ok tt) → ((disk : ℕ) → is_broken broken disk ≡ false) → Makes seen vid shape homes file (Ok entry)
-    made_ok counts unbroken = record {
+    pub made_ok : CountsFault {T = Unit {0}} (seen file).faults (seen log.file).faults (Ok tt) → GrowsUpTo (5 + item_size vid shape.mode item) (Some (end_place [])) log.end
+        → Lasts (seen file) (seen log.file) → ((disk : ℕ) → is_broken broken disk ≡ false) → length broken ≡ 65 → Makes seen vid shape homes file (Ok entry)
+    made_ok counts grows lasts unbroken flags = record {
       vid_is = refl;
       shape_is = refl;
       part_is = is;
       open_ = some log.end begins.0;
+      early = early_end vid shape homes first item made log.end grows;
       certain = refl;
       unheard = forgets;
       unbroken = unbroken;
+      flags = flags;
       faults = counts;
+      lasts = lasts;
       stands = go (seen file).content begins.1;
     }
       where

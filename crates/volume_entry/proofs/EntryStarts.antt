@@ -49,10 +49,10 @@ module _ {E : Type 0} (seen : E → FileView) (old new : EntryOver E) where
   counts_as (faults.Spoiled place) a b h = h
 
   pub started_call : (found : Bool) (heard : HeardMemory) → new.broken ≡ old.broken → StartsBook seen old.book new.book (Ok (found, heard)) → EntryCall seen old new (Ok found)
-  started_call found heard broken starts = record { vid = starts.vid; shape = starts.shape; broken = broken; counts = starts.counts }
+  started_call found heard broken starts = record { vid = starts.vid; shape = starts.shape; broken = broken; counts = starts.counts; end = tt }
 
   pub refused_call : (why : EntryFault) → new.broken ≡ old.broken → StartsBook seen old.book new.book (Err why) → EntryCall seen {T = Bool} old new (Err why)
-  refused_call why broken starts = record { vid = starts.vid; shape = starts.shape; broken = broken; counts = counts_as why (seen old.book.log.file).faults (seen new.book.log.file).faults starts.counts }
+  refused_call why broken starts = record { vid = starts.vid; shape = starts.shape; broken = broken; counts = counts_as why (seen old.book.log.file).faults (seen new.book.log.file).faults starts.counts; end = starts.end }
 
   pub started_told : (found : Bool) (heard : HeardMemory) → new.heard ≡ heard → StartsBook seen old.book new.book (Ok (found, heard)) → Restarts seen old new (Ok found)
   started_told = restarts_ok

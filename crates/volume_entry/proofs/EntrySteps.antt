@@ -9,6 +9,7 @@ use Rattle.volume_entry.specs.Reply.{Reply}
 use Rattle.volume_entry.specs.HeardMemory.{HeardMemory, Remembers}
 use Rattle.volume_entry.specs.HeardCalls.{Follows}
 use Rattle.volume_entry.specs.TableParts.{shape_of}
+use Rattle.volume_entry.proofs.BookLasts.{leaves_same, write_leaves}
 use Rattle.volume_entry.specs.Book.{BookOver, Keeps, CountsFault, HasRoom, WritesRecord}
 use Rattle.volume_entry.specs.Book as books
 use Rattle.volume_entry.specs.Entry.{EntryOver, logged, Stands, reply_of, ShowsMoves, StepsTo, Steps, EntryCall, HasRoomIfOpen, IsNoGrant, RefusesBy, LeavesHeard, Rules, Wrote, WritesStep}
@@ -100,14 +101,14 @@ module _ {E : Type 0} (seen : E → FileView) where
 
   pub writes_step : (old new : EntryOver E) (item : ManagerRecord) (result : Result (Unit {0}) EntryFault) → LeavesHeard item → new.heard ≡ old.heard → new.broken ≡ old.broken → WritesRecord seen item old.book new.book result → WritesStep seen item old new result
   writes_step old new item result leaves heard broken w = record {
-    call = record { vid = w.vid; shape = w.shape; broken = broken; counts = w.counts };
+    call = record { vid = w.vid; shape = w.shape; broken = broken; counts = w.counts; end = write_leaves seen item old.book new.book result w.ends };
     told = λ m s is. stands_by old new item leaves heard w.shape m s is result (w.told (logged m) (open_book old m s is));
   }
 
   -- ---- what a step answers
 
   pub shut_rules : (time : ℕ) (event : ManagerEvent) (refusal : Manager → Option Reply) (entry : EntryOver E) → entry.book.log.end ≡ None → Rules seen time event refusal entry (Some (Err faults.Shut))
-  shut_rules time event refusal entry none = (record { vid = refl; shape = refl; broken = refl; counts = refl }, (λ m s. (is_closed entry m s none, s)))
+  shut_rules time event refusal entry none = (record { vid = refl; shape = refl; broken = refl; counts = refl; end = leaves_same entry.book.log.end }, (λ m s. (is_closed entry m s none, s)))
 
   pub no_grant : (vid : ℕ) (broken : List Bool) (n : Manager) (reply : ManagerReply) → IsNoGrant reply → ShowsMoves vid broken n reply
   no_grant vid broken n (replies.Granted lock moves) h = absurd h
@@ -118,7 +119,7 @@ module _ {E : Type 0} (seen : E → FileView) where
       → ((m : Manager) (r : Reply) → refusal m ≡ Some r → StepsTo (shape_of entry.book.shape) entry.broken time event m r m)
       → IsSome entry.book.log.end → Rules seen time event refusal entry (Some (Ok reply))
   refused_rules time event refusal entry reply refuses steps some = (
-    record { vid = refl; shape = refl; broken = refl; counts = refl },
+    record { vid = refl; shape = refl; broken = refl; counts = refl; end = tt },
     (λ m s.
         let h = refuses m s in (
           is_open entry m s some,
@@ -150,7 +151,7 @@ module _ {E : Type 0} (seen : E → FileView) where
   counts_as T U (faults.Spoiled place) a b h = h
 
   pub failed_call : (T U : Type 0) (old new : EntryOver E) (why : EntryFault) → EntryCall seen {T = T} old new (Err why) → EntryCall seen {T = U} old new (Err why)
-  failed_call T U old new why call = record { vid = call.vid; shape = call.shape; broken = call.broken; counts = counts_as T U why (seen old.book.log.file).faults (seen new.book.log.file).faults call.counts }
+  failed_call T U old new why call = record { vid = call.vid; shape = call.shape; broken = call.broken; counts = counts_as T U why (seen old.book.log.file).faults (seen new.book.log.file).faults call.counts; end = call.end }
 
 -- ---- each step's refusals are its steps
 

@@ -17,6 +17,7 @@ pub mod Bids
 pub mod LockTargets
 pub mod LogEnds
 pub mod NamedUnits
+pub mod PlacedUnits
 pub mod SoundParts
 pub mod BookEnds
 pub mod BookReads
@@ -35,6 +36,7 @@ pub mod EntryStarts
 pub mod EntryMade
 pub mod LockSteps
 pub mod LookingLists
+pub mod ShownPlaces
 pub mod SwapRefusals
 pub mod SwapSteps
 pub mod UnsettledBlobs

@@ -11,6 +11,7 @@ use Rattle.volume_entry.specs.Reply.{Reply}
 use Rattle.volume_entry.specs.HeardMemory.{HeardMove, HeardMemory, Remembers}
 use Rattle.volume_entry.specs.HeardCalls.{AreFresh, Follows}
 use Rattle.volume_entry.specs.TableParts.{shape_of}
+use Rattle.volume_entry.proofs.BookLasts.{leaves_same, write_leaves}
 use Rattle.volume_entry.specs.Book.{Keeps, CountsFault, WritesRecord}
 use Rattle.volume_entry.specs.Book as books
 use Rattle.volume_entry.specs.Entry.{EntryOver, logged, is_broken, Stands, reply_of, ShowsMoves, StepsTo, StepsBy, Steps, RefusesBy, Rules, Wrote, WritesStep}
@@ -80,7 +81,7 @@ module _ {E : Type 0} (seen : E → FileView) where
   pub followed_step : (old new : EntryOver E) (item : ManagerRecord) → Follows (written item) old.heard new.heard → new.broken ≡ old.broken → WritesRecord seen item old.book new.book (Ok tt)
       → WritesStep seen item old new (Ok tt)
   followed_step old new item follows broken w = record {
-    call = record { vid = w.vid; shape = w.shape; broken = broken; counts = w.counts };
+    call = record { vid = w.vid; shape = w.shape; broken = broken; counts = w.counts; end = tt };
     told = λ m s is. record {
       book = subst (λ p. Keeps seen new.book p (written item m).is_shut (written item m).doubt) (sym (logged_written item m))
           (subst (λ (b : Bool). Keeps seen new.book (written item (logged m)) b (written item m).doubt) (sym (shut_written item m ∙ is))
@@ -106,7 +107,7 @@ module _ {E : Type 0} (seen : E → FileView) where
   pub unwritten_step : (old new : EntryOver E) (item : ManagerRecord) (why : EntryFault) → new.heard ≡ old.heard → new.broken ≡ old.broken → WritesRecord seen item old.book new.book (Err why)
       → WritesStep seen item old new (Err why)
   unwritten_step old new item why heard broken w = record {
-    call = record { vid = w.vid; shape = w.shape; broken = broken; counts = w.counts };
+    call = record { vid = w.vid; shape = w.shape; broken = broken; counts = w.counts; end = write_leaves seen item old.book new.book (Err why) w.ends };
     told = λ m s is. unwritten old new item heard w.shape m s is why (w.told (logged m) (open_book seen old m s is));
   }
 
@@ -114,7 +115,7 @@ module _ {E : Type 0} (seen : E → FileView) where
 
   pub writes_grant : (old new : EntryOver E) (item : ManagerRecord) (reply : ManagerReply) → WritesStep seen item old new (Ok tt) → reply ≡ grant_shown new.book.vid new.broken new.book.part → WritesGrant seen item old new (Ok reply)
   writes_grant old new item reply w is = record {
-    call = record { vid = w.call.vid; shape = w.call.shape; broken = w.call.broken; counts = w.call.counts };
+    call = record { vid = w.call.vid; shape = w.call.shape; broken = w.call.broken; counts = w.call.counts; end = tt };
     told = λ m s open_.
         let stands = w.told m s open_ in (
           is ∙ ap (λ v. grant_shown v new.broken new.book.part) w.call.vid ∙ ap (λ bs. grant_shown old.book.vid bs new.book.part) w.call.broken
@@ -137,14 +138,14 @@ module _ {E : Type 0} (seen : E → FileView) where
 
   pub fails_grant : (old new : EntryOver E) (item : ManagerRecord) (why : EntryFault) → WritesStep seen item old new (Err why) → WritesGrant seen item old new (Err why)
   fails_grant old new item why w = record {
-    call = record { vid = w.call.vid; shape = w.call.shape; broken = w.call.broken; counts = failed_counts why (seen old.book.log.file).faults (seen new.book.log.file).faults w.call.counts };
+    call = record { vid = w.call.vid; shape = w.call.shape; broken = w.call.broken; counts = failed_counts why (seen old.book.log.file).faults (seen new.book.log.file).faults w.call.counts; end = w.call.end };
     told = λ m s open_. failed_told old new item m why (w.told m s open_);
   }
 
   -- memory was wanting before anything changed
   pub lacks_memory : (old : EntryOver E) (item : ManagerRecord) (why : EntryFault) → why ≡ faults.Memory → WritesGrant seen item old old (Err why)
   lacks_memory old item why is =
-      subst (λ f. WritesGrant seen item old old (Err f)) (sym is) (record { call = record { vid = refl; shape = refl; broken = refl; counts = refl }; told = λ m s open_. s })
+      subst (λ f. WritesGrant seen item old old (Err f)) (sym is) (record { call = record { vid = refl; shape = refl; broken = refl; counts = refl; end = leaves_same old.book.log.end }; told = λ m s open_. s })
 
   -- ---- the step
 

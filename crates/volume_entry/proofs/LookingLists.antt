@@ -23,7 +23,7 @@ module _ (vid : ℕ) (broken : ℕ → Bool) where
       let e : i + length (y ∷ ys) ≡ suc i + length ys = omega arith in
       rw e (ap (λ hs. record { unit = record { vid = vid; index = i; epoch = y.epoch }; disk = y.disk; broken = broken y.disk } ∷ hs) (shown-push (suc i) ys x))
 
-  length-shown : (i : ℕ) (xs : List Location) → length (homes_shown vid i broken xs) ≡ length xs
+  pub length-shown : (i : ℕ) (xs : List Location) → length (homes_shown vid i broken xs) ≡ length xs
   length-shown i [] = refl
   length-shown i (x ∷ xs) = ap suc (length-shown (suc i) xs)
 
@@ -49,7 +49,7 @@ module _ (vid : ℕ) (broken : ℕ → Bool) (swapped : Bool) where
   moves-push [] x = refl
   moves-push (y ∷ ys) x = ap (λ ms. moves_shown vid broken swapped (y ∷ []) ++ ms) (moves-push ys x)
 
-  length-moves : (xs : List Transfer) → length (moves_shown vid broken swapped xs) ≡ length xs
+  pub length-moves : (xs : List Transfer) → length (moves_shown vid broken swapped xs) ≡ length xs
   length-moves [] = refl
   length-moves (x ∷ xs) = ap suc (length-moves xs)
 

@@ -22,7 +22,7 @@ named_first shape homes first = named_fresh shape homes (are_fresh shape homes f
 pub next_named : (shape : VolumeShape) (homes : List Location) (greatest : List ℕ) (grant : Grant) → IsNextHome shape homes greatest grant → IsEpoch grant.dest.epoch
 next_named shape homes greatest grant next = let e = next.epoch in record { first = omega (arith, e); last = next.last }
 
-home_in : (homes : List Location) (i : ℕ) → i < length homes → IsIn (home_at homes i) homes
+pub home_in : (homes : List Location) (i : ℕ) → i < length homes → IsIn (home_at homes i) homes
 home_in [] i h = absurd (omega arith)
 home_in (x ∷ xs) zero h = inl refl
 home_in (x ∷ xs) (suc i) h = inr (home_in xs i (omega arith))

@@ -2,12 +2,11 @@
 use Rattle.std.proofs.Common.{◌≡◌, ◌∙◌, sym, ap, refl, subst, ℕ, zero, suc, ◌+◌, ◌<◌, ◌≤◌, Bool, true, false, cond, List, [], ◌∷◌, ◌++◌, length, Option, None, Some, Err, inl, inr, arith}
 use Rattle.std.specs.Prelude.{◌==◌}
 use Rattle.unit_id.specs.Lists.{IsIn}
-use Rattle.unit_id.specs.Place.{Location}
 use Rattle.code_mode.specs.Mode.{put_quorum, data_count, total_count}
 use Rattle.code_mode.specs.VolumeShape.{VolumeShape, last_epoch}
 use Rattle.code_mode.specs.declared.mode.Mode.{Mode}
 use Rattle.code_mode.specs.declared.mode.Mode.TheVariants.{Ec3P3, Ec6P3, Ec6P6, Ec10P4, Ec12P4, Ec12P9, Ec16P4, Ec15P12}
-use Rattle.volume_entry.specs.Manager.{Transfer, Lock, Grant, ManagerRecord, Manager, greatest_at, transfers_of, transfers_to, raised_one, raised, redirected, redirected_lock, swapped_lock, fresh_manager, written, IsLegal, LeadsBy, IsLog}
+use Rattle.volume_entry.specs.Manager.{Lock, Grant, ManagerRecord, Manager, greatest_at, transfers_of, raised_one, raised, redirected_lock, swapped_lock, fresh_manager, written, IsLegal, LeadsBy, IsLog}
 use Rattle.volume_entry.specs.TableParts.{shape_of}
 use Rattle.std.specs.List.{flat_map}
 use Rattle.std.specs.Prelude.{IsSomeAnd, ◌*◌}
@@ -19,6 +18,7 @@ use Rattle.volume_entry.specs.declared.fault.EntryFault.TheVariants as faults
 use Rattle.gate_log.specs.GateLog.{LogView}
 use Rattle.volume_entry.specs.declared.shape.Shape.{Shape}
 use Rattle.volume_entry.proofs.Moved.{moved_length}
+use Rattle.volume_entry.proofs.PlacedUnits.{length-transfers, length-redirected, placed_after}
 use Rattle.volume_entry.proofs.NamedUnits.{next_named, granted_named, lock_redirected_named, moved_named, swapped_named}
 
 few : (mode : Mode) → put_quorum mode ≤ data_count mode + 9
@@ -65,14 +65,6 @@ raised_within k ts (epoch ∷ epochs) (suc i) all h = raised_within (suc k) ts e
 
 -- ---- counts
 
-length-transfers : (grants : List Grant) (homes : List Location) → length (transfers_to grants homes) ≡ length grants
-length-transfers [] homes = refl
-length-transfers (t ∷ ts) homes = ap suc (length-transfers ts homes)
-
-length-redirected : (grant : Grant) (ts : List Transfer) → length (redirected grant ts) ≡ length ts
-length-redirected grant [] = refl
-length-redirected grant (t ∷ ts) = ap suc (length-redirected grant ts)
-
 redirected_few : (grant : Grant) (lock : Option Lock) → length (transfers_of lock) ≤ 9 → length (transfers_of (redirected_lock grant lock)) ≤ 9
 redirected_few grant None h = h
 redirected_few grant (Some lock) h = let e = length-redirected grant lock.transfers in omega (arith, e, h)
@@ -89,12 +81,13 @@ module _ (shape : Shape) (place end : ℕ) (below : place < end) (m : Manager) (
 
   pub sound_after : (item : ManagerRecord) → IsLegal (shape_of shape) m item → IsSoundPart (shape_of shape) (Some end) (written item m)
   sound_after (ManagerRecord.Made homes) legal = absurd legal
-  sound_after (ManagerRecord.Leased time) legal = record { homes = is.homes; moves = is.moves; named = is.named; moves_named = is.moves_named; greatest = is.greatest; version = later m.version is.version; granted = later m.granted is.granted }
+  sound_after (ManagerRecord.Leased time) legal = record { homes = is.homes; moves = is.moves; named = is.named; moves_named = is.moves_named; placed = placed_after shape m is.homes is.placed (ManagerRecord.Leased time) legal; greatest = is.greatest; version = later m.version is.version; granted = later m.granted is.granted }
   sound_after (ManagerRecord.Locked task number grants) legal = record {
     homes = is.homes;
     moves = let e = length-transfers grants m.homes in let f = few_grants shape (length grants) legal.most in omega (arith, e, f);
     named = is.named;
     moves_named = granted_named (shape_of shape) m.homes m.greatest is.homes is.named grants legal.homes;
+    placed = placed_after shape m is.homes is.placed (ManagerRecord.Locked task number grants) legal;
     greatest = λ i below_. raised_within 0 grants m.greatest i (λ t h. (legal.homes t h).last) (is.greatest i below_);
     version = later m.version is.version;
     granted = let n = legal.next in let h = is.granted in omega (arith, n, h, below);
@@ -104,6 +97,7 @@ module _ (shape : Shape) (place end : ℕ) (below : place < end) (m : Manager) (
     moves = redirected_few grant m.lock is.moves;
     named = is.named;
     moves_named = lock_redirected_named grant m.lock (next_named (shape_of shape) m.homes m.greatest grant legal.home) is.moves_named;
+    placed = placed_after shape m is.homes is.placed (ManagerRecord.Retargeted grant) legal;
     greatest = λ i below_. raised_within 0 (grant ∷ []) m.greatest i (λ t h. elim h [ inl e ↦ subst (λ (g : Grant). g.dest.epoch ≤ last_epoch) (sym e) legal.home.last | inr none ↦ absurd none ]) (is.greatest i below_);
     version = later m.version is.version;
     granted = later m.granted is.granted;
@@ -113,13 +107,14 @@ module _ (shape : Shape) (place end : ℕ) (below : place < end) (m : Manager) (
     moves = swapped_few m.lock is.moves;
     named = moved_named 0 (transfers_of m.lock) m.homes is.moves_named is.named;
     moves_named = swapped_named m.lock is.moves_named;
+    placed = placed_after shape m is.homes is.placed ManagerRecord.Swapped legal;
     greatest = is.greatest;
     version = let h = is.version in omega (arith, h, below);
     granted = later m.granted is.granted;
   }
-  sound_after ManagerRecord.Unlocked legal = record { homes = is.homes; moves = omega arith; named = is.named; moves_named = λ t i. absurd i; greatest = is.greatest; version = later m.version is.version; granted = later m.granted is.granted }
-  sound_after (ManagerRecord.Asked bid) legal = record { homes = is.homes; moves = is.moves; named = is.named; moves_named = is.moves_named; greatest = is.greatest; version = later m.version is.version; granted = later m.granted is.granted }
-  sound_after (ManagerRecord.Committed bid) legal = record { homes = is.homes; moves = is.moves; named = is.named; moves_named = is.moves_named; greatest = is.greatest; version = later m.version is.version; granted = later m.granted is.granted }
+  sound_after ManagerRecord.Unlocked legal = record { homes = is.homes; moves = omega arith; named = is.named; moves_named = λ t i. absurd i; placed = placed_after shape m is.homes is.placed ManagerRecord.Unlocked legal; greatest = is.greatest; version = later m.version is.version; granted = later m.granted is.granted }
+  sound_after (ManagerRecord.Asked bid) legal = record { homes = is.homes; moves = is.moves; named = is.named; moves_named = is.moves_named; placed = placed_after shape m is.homes is.placed (ManagerRecord.Asked bid) legal; greatest = is.greatest; version = later m.version is.version; granted = later m.granted is.granted }
+  sound_after (ManagerRecord.Committed bid) legal = record { homes = is.homes; moves = is.moves; named = is.named; moves_named = is.moves_named; placed = placed_after shape m is.homes is.placed (ManagerRecord.Committed bid) legal; greatest = is.greatest; version = later m.version is.version; granted = later m.granted is.granted }
 
 -- ---- logs of one record more
 
@@ -172,7 +167,7 @@ sound_refused shape is_shut before after m n why ends is same = subst (IsSoundPa
 
   go : (why : EntryFault) → AppendEnds before after (Err why) → IsSoundPart (shape_of shape) (end_unless is_shut after.end) m
   go faults.Fault none = subst (λ o. IsSoundPart (shape_of shape) o m) (sym (ap (end_unless is_shut) none ∙ no_end is_shut))
-      (record { homes = is.homes; moves = is.moves; named = is.named; moves_named = is.moves_named; greatest = is.greatest; version = tt; granted = tt })
+      (record { homes = is.homes; moves = is.moves; named = is.named; moves_named = is.moves_named; placed = is.placed; greatest = is.greatest; version = tt; granted = tt })
   go faults.Memory stays = subst (λ e. IsSoundPart (shape_of shape) (end_unless is_shut e) m) (sym stays) is
   go faults.Shut none = absurd none
   go (faults.Spoiled place) none = absurd none

@@ -9,6 +9,7 @@ use Rattle.volume_entry.specs.Reply.{Reply}
 use Rattle.volume_entry.specs.HeardMemory.{Remembers}
 use Rattle.volume_entry.specs.HeardCalls.{Follows}
 use Rattle.volume_entry.specs.TableParts.{shape_of}
+use Rattle.volume_entry.proofs.BookLasts.{write_leaves}
 use Rattle.volume_entry.specs.Book.{BookOver, Keeps, WritesRecord}
 use Rattle.volume_entry.specs.Book as books
 use Rattle.volume_entry.specs.Entry.{EntryOver, logged, Stands, reply_of, StepsTo, Steps, IsNoGrant, RefusesFor, Rules, Decides, Wrote, WritesStep}
@@ -59,7 +60,7 @@ module _ {E : Type 0} (seen : E → FileView) where
 
     pub done_writes : (done : Unit {0}) → Follows (written item) old.heard new.heard → WritesRecord seen item old.book new.book (Ok done) → WritesStep seen item old new (Ok done)
     done_writes done follows w = record {
-      call = record { vid = w.vid; shape = w.shape; broken = broken; counts = w.counts };
+      call = record { vid = w.vid; shape = w.shape; broken = broken; counts = w.counts; end = tt };
       told = λ m s is. record {
         book = subst (λ p. Keeps seen new.book p (written item m).is_shut (written item m).doubt) (sym (logged_written item m))
             (subst (λ (b : Bool). Keeps seen new.book (written item (logged m)) b (written item m).doubt) (sym (shut_written item m ∙ is))
@@ -80,7 +81,7 @@ module _ {E : Type 0} (seen : E → FileView) where
 
     pub failed_writes : (why : EntryFault) → new.heard ≡ old.heard → WritesRecord seen item old.book new.book (Err why) → WritesStep seen item old new (Err why)
     failed_writes why heard w = record {
-      call = record { vid = w.vid; shape = w.shape; broken = broken; counts = w.counts };
+      call = record { vid = w.vid; shape = w.shape; broken = broken; counts = w.counts; end = write_leaves seen item old.book new.book (Err why) w.ends };
       told = λ m s is. failed_stands heard w.shape m s is why (w.told (logged m) (open_book seen old m s is));
     }
 

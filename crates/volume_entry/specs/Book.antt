@@ -11,7 +11,7 @@ use Rattle.unit_id.specs.Place.{Location}
 use Rattle.code_mode.specs.VolumeShape.{VolumeShape, last_epoch}
 use Rattle.code_mode.specs.declared.mode.Mode.{Mode}
 use Rattle.volume_entry.specs.Laws.{IsWithinLast}
-use Rattle.volume_entry.specs.Manager.{ManagerRecord, Manager, Transfer, IsLegal, IsLog, transfers_of, written}
+use Rattle.volume_entry.specs.Manager.{ManagerRecord, Manager, Transfer, IsDisk, IsLegal, IsLog, transfers_of, written}
 use Rattle.volume_entry.specs.Spelling.{Spells, summed_part}
 use Rattle.volume_entry.specs.TableParts.{shape_of}
 use Rattle.volume_entry.specs.declared.shape.Shape.{Shape}
@@ -44,13 +44,33 @@ AreNamed homes = (home : Location) → IsIn home homes → IsEpoch home.epoch
 abbrev pub AreMovesNamed : List Transfer → Type 0
 AreMovesNamed transfers = (t : Transfer) → IsIn t transfers → IsEpoch t.old.epoch × IsEpoch t.dest.epoch
 
--- What holds of every part that a book has, whatever its file tells: a home for each unit, few moves, units that may be named, epochs that fit, and
--- no more swaps and locks than bytes of the log.
+-- these homes are on disks of the volume
+abbrev pub AreOnDisks : VolumeShape → List Location → Type 0
+AreOnDisks shape homes = (home : Location) → IsIn home homes → IsDisk shape home.disk
+
+-- a unit of the volume moves from one of its disks to one of them
+pub record IsMoveWithin (shape : VolumeShape) (t : Transfer) : Type 0 where
+  pub index : t.index < shape.total
+  pub old : IsDisk shape t.old.disk
+  pub dest : IsDisk shape t.dest.disk
+
+abbrev pub AreMovesWithin : VolumeShape → List Transfer → Type 0
+AreMovesWithin shape transfers = (t : Transfer) → IsIn t transfers → IsMoveWithin shape t
+
+-- The units of a part are on disks of the volume. Its lock moves them between these, and no more of them than a volume can lose.
+pub record IsPlaced (shape : VolumeShape) (part : Manager) : Type 0 where
+  pub homes : AreOnDisks shape part.homes
+  pub moves : AreMovesWithin shape (transfers_of part.lock)
+  pub most : length (transfers_of part.lock) + shape.data_count ≤ shape.quorum
+
+-- What holds of every part that a book has, whatever its file tells: a home for each unit, few moves, units that may be named, places of the volume,
+-- epochs that fit, and no more swaps and locks than bytes of the log.
 pub record IsSoundPart (shape : VolumeShape) (end : Option ℕ) (part : Manager) : Type 0 where
   pub homes : length part.homes ≡ shape.total
   pub moves : length (transfers_of part.lock) ≤ 9
   pub named : AreNamed part.homes
   pub moves_named : AreMovesNamed (transfers_of part.lock)
+  pub placed : IsPlaced shape part
   pub greatest : IsWithinLast shape part.greatest
   pub version : IfSome end (λ place. part.version ≤ place)
   pub granted : IfSome end (λ place. part.granted ≤ place)
@@ -158,6 +178,11 @@ GrowsUpTo most old new = IfSome new (λ end. IsSomeAnd old (λ place. end ≤ pl
 -- .. and that of a book by a record's 128 bytes
 abbrev pub EndGrows : Option ℕ → Option ℕ → Type 0
 EndGrows old new = GrowsUpTo 128 old new
+
+-- after an error a log ends where it did, or is shut
+abbrev pub LeavesEnd : {T : Type 0} → Option ℕ → Option ℕ → Result T EntryFault → Type 0
+LeavesEnd old new (Ok _) = Unit {0}
+LeavesEnd old new (Err _) = IfSome new (λ end. old ≡ Some end)
 
 -- a file that was a log of some bodies is one of the same
 abbrev pub KeepsBodies : FileView → FileView → Type 0

@@ -9,7 +9,7 @@ use Rattle.volume_entry.specs.Manager.{ManagerRecord, Manager, LeadsBy, IsLog, n
 use Rattle.code_mode.specs.VolumeShape.{VolumeShape}
 use Rattle.volume_entry.specs.HeardMemory.{HeardMemory, Remembers}
 use Rattle.volume_entry.specs.TableParts.{part_of, shape_of}
-use Rattle.volume_entry.specs.Book.{BookOver, Keeps, AreSpelled, CountsFault, IsSoundPart}
+use Rattle.volume_entry.specs.Book.{BookOver, Keeps, AreSpelled, CountsFault, IsSoundPart, LeavesEnd}
 use Rattle.volume_entry.specs.declared.shape.Shape.{Shape}
 use Rattle.volume_entry.specs.declared.table.Table.{Table}
 use Rattle.volume_entry.specs.declared.fault.EntryFault.{EntryFault}
@@ -151,5 +151,6 @@ module _ {E : Type 0} (seen : E → FileView) where
     pub vid : new.vid ≡ old.vid
     pub shape : new.shape ≡ old.shape
     pub counts : CountsFault (seen old.log.file).faults (seen new.log.file).faults result
+    pub end : LeavesEnd old.log.end new.log.end result
     pub heard : IfOk result (λ found. IsForgetful (shape_of new.shape) new.part found.1)
     pub told : (part : Manager) (is_shut : Bool) (doubt : Option ManagerRecord) → Keeps seen old part is_shut doubt → Started part is_shut doubt new result

@@ -10,7 +10,7 @@ use Rattle.volume_entry.specs.View.{moves_shown}
 use Rattle.volume_entry.specs.ShownView.{view_shown}
 use Rattle.volume_entry.specs.HeardMemory.{HeardMemory, Remembers}
 use Rattle.volume_entry.specs.TableParts.{shape_of}
-use Rattle.volume_entry.specs.Book.{BookOver, Keeps, CountsFault}
+use Rattle.volume_entry.specs.Book.{BookOver, Keeps, CountsFault, LeavesEnd}
 use Rattle.volume_entry.specs.BookStart.{found_part, last_start}
 use Rattle.volume_entry.specs.declared.view.View.{View}
 use Rattle.volume_entry.specs.declared.event.ManagerEvent.{ManagerEvent}
@@ -105,12 +105,13 @@ module _ {E : Type 0} (seen : E → FileView) where
   abbrev pub Steps : ℕ → ManagerEvent → EntryOver E → EntryOver E → Result ManagerReply EntryFault → Type 0
   Steps time event old new result = (m : Manager) → Stands seen old m → StepsBy time event m old result new
 
-  -- what every step keeps; its file fails exactly where the answer is a fault
+  -- what every step keeps; its file fails exactly where the answer is a fault, and after an error the log ends where it did or is shut
   pub record EntryCall {T : Type 0} (old new : EntryOver E) (result : Result T EntryFault) : Type 0 where
     pub vid : new.book.vid ≡ old.book.vid
     pub shape : new.book.shape ≡ old.book.shape
     pub broken : new.broken ≡ old.broken
     pub counts : CountsFault (seen old.book.log.file).faults (seen new.book.log.file).faults result
+    pub end : LeavesEnd old.book.log.end new.book.log.end result
 
 -- what is asked of an event
 abbrev pub FitsEvent : VolumeShape → ManagerEvent → Type 0
@@ -171,12 +172,12 @@ MayAnswer event reply = ⊥
 abbrev pub MayRefuse : ManagerEvent → Option ManagerReply → Type 0
 MayRefuse event refusal = IfSome refusal (λ reply. (n : Manager) → MayAnswer event (reply_of n reply))
 
--- a step answers with one of them, says only of a log without an end that it is shut, and of none that it is spoiled
+-- A step answers with one of them. It says exactly of a log without an end that it is shut, and of none that it is spoiled.
 abbrev pub AnswersAs : ManagerEvent → Option ℕ → Result ManagerReply EntryFault → Type 0
-AnswersAs event end (Ok reply) = (n : Manager) → MayAnswer event (reply_of n reply)
+AnswersAs event end (Ok reply) = IsSome end × ((n : Manager) → MayAnswer event (reply_of n reply))
 AnswersAs event end (Err faults.Shut) = end ≡ None
 AnswersAs event end (Err (faults.Spoiled place)) = ⊥
-AnswersAs event end (Err _) = Unit {0}
+AnswersAs event end (Err _) = IsSome end
 
 -- ---- parts of a step
 

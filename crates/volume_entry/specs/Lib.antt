@@ -18,6 +18,7 @@ pub mod HeardCalls
 pub mod MarkKeys
 pub mod Entry
 pub mod Granting
+pub mod Places
 pub mod HeardCounts
 pub mod Shares
 pub mod Sending

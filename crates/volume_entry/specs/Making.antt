@@ -1,6 +1,6 @@
 -- How a volume's entry is made in a new file.
-use Rattle.std.specs.Prelude.{ℕ, ◌≡◌, ◌<◌, false, List, [], ◌∷◌, None, Some, Result, Ok, Err, IfSome, IsSome, IsSomeAnd}
-use Rattle.disk_base.specs.Disk.{FileView}
+use Rattle.std.specs.Prelude.{ℕ, ◌≡◌, ◌<◌, ◌≤◌, length, false, List, [], ◌∷◌, None, Some, Result, Ok, Err, IfSome, IsSome, IsSomeAnd}
+use Rattle.disk_base.specs.Disk.{FileView, Lasts}
 use Rattle.disk_base.specs.Faults.{Rose}
 use Rattle.unit_id.specs.Place.{Location}
 use Rattle.gate_log.specs.LogFile.{IsLogOf, end_place}
@@ -24,6 +24,10 @@ use Rattle.volume_entry.specs.declared.fault.EntryFault.TheVariants as faults
 abbrev pub IsNew : FileView → Type 0
 IsNew file = IfSome file.content (λ bytes. bytes ≡ [])
 
+-- a log with no more than the record of the making ends here at the latest
+abbrev pub last_first_end : ℕ
+last_first_end = 384
+
 -- What is in memory before the file is touched: the record of the making, the table that it leaves, and a memory in which nothing was heard.
 abbrev pub IsReady : Shape → List Location → LogRecord × Table × HeardMemory → Type 0
 IsReady shape homes ready =
@@ -36,10 +40,13 @@ module _ {E : Type 0} (seen : E → FileView) where
     pub shape_is : entry.book.shape ≡ shape
     pub part_is : entry.book.part ≡ fresh_manager homes
     pub open_ : IsSome entry.book.log.end
+    pub early : IfSome entry.book.log.end (λ place. place ≤ last_first_end)
     pub certain : entry.book.doubt ≡ None
     pub unheard : IsForgetful (shape_of shape) entry.book.part entry.heard
     pub unbroken : (disk : ℕ) → is_broken entry.broken disk ≡ false
+    pub flags : length entry.broken ≡ 65
     pub faults : (seen entry.book.log.file).faults ≡ (seen file).faults
+    pub lasts : Lasts (seen file) (seen entry.book.log.file)
     pub stands : IfSome (seen file).content (λ _. Stands seen entry (fresh_manager homes))
 
   -- where the first file told its bytes, those of the other are a log's without a record

@@ -8,7 +8,7 @@ ghost use Rattle.volume_entry.specs.Entry.{RefusesBy};
 ghost use Rattle.volume_entry.specs.RecordBytes.{record_of};
 ghost use Rattle.volume_entry.specs.TableParts.{shape_of};
 ghost use Rattle.volume_entry.specs.Book.{HasRoom, WritesRecord, doubt_after, EndGrows, CrashKeeps, CrashLeaves, IsWriteFault, KeepsBodies};
-ghost use Rattle.volume_entry.specs.BookStart.{StartsBook, EndsInTime, IsSpoiledAtEnd, is_behind, ends_differ, shut_after};
+ghost use Rattle.volume_entry.specs.BookStart.{StartsBook, EndsInTime, IsSpoiledAtEnd, IsStartCause, is_behind, ends_differ, shut_after};
 
 use crate::appending::append_item;
 use crate::event::ManagerReply;
@@ -160,6 +160,7 @@ impl<E: Extent> Book<E> {
         ensures moments { CrashKeeps (E.seen self.old.log.file) (E.seen self.new.log.file) }
         ensures last { EndsInTime self.new.log.end result }
         ensures spoiled { IsSpoiledAtEnd self.old.vid self.old.shape (E.seen self.old.log.file) result }
+        ensures named { IfErr result IsStartCause }
     {
         let was = self.end();
         match start_all(self.alloc, self.vid, self.shape, &mut self.log) {

@@ -1,10 +1,10 @@
 //! The manager's part of one volume over its log.
 
-ghost use Rattle.std.specs.Prelude.{◌≡◌, ◌≤◌, ◌+◌, ℕ, true, ◌==◌, ◌||◌, None, IsSome, IfSome, IfErr, OnOk, set};
+ghost use Rattle.std.specs.Prelude.{◌≡◌, ◌≤◌, ◌+◌, ℕ, true, ◌==◌, ◌||◌, None, IsSome, IfSome, IfErr, OnOk, length, set};
 ghost use Rattle.disk_base.specs.Disk.{Lasts};
 ghost use Rattle.code_mode.specs.VolumeShape.{last_time};
 ghost use Rattle.volume_entry.specs.Book.{HasRoom, EndGrows, CrashKeeps, CrashLeaves, IsWriteFault, KeepsBodies};
-ghost use Rattle.volume_entry.specs.BookStart.{EndsInTime, IsSpoiledAtEnd};
+ghost use Rattle.volume_entry.specs.BookStart.{EndsInTime, IsSpoiledAtEnd, IsStartCause};
 ghost use Rattle.volume_entry.specs.Manager.{Manager, ManagerRecord, IsLegal, IsBid};
 ghost use Rattle.volume_entry.specs.ManagerStep.{lease_refusal, ask_refusal};
 ghost use Rattle.volume_entry.specs.RecordBytes.{record_of};
@@ -61,7 +61,7 @@ impl<E: Extent> Entry<E> {
     /// `Spoiled` with the place of the first record that isn't legal behind those before it; with 0 where the file doesn't
     /// begin as a log, with the place of a broken chain, and, where each record is legal, with the log's end where that is
     /// above 2^39. `Fault` only where a call on the file failed. After each of these the log is shut; `Memory` changes
-    /// nothing.
+    /// nothing. It is never `Shut`.
     pub fn start(&mut self) -> Result<bool, EntryFault>
         ensures call { EntryCall E.seen self.old self.new result }
         ensures told { Restarts E.seen self.old self.new result }
@@ -70,6 +70,7 @@ impl<E: Extent> Entry<E> {
         ensures moments { CrashKeeps (E.seen self.old.book.log.file) (E.seen self.new.book.log.file) }
         ensures last { EndsInTime self.new.book.log.end result }
         ensures spoiled { IsSpoiledAtEnd self.old.book.vid self.old.book.shape (E.seen self.old.book.log.file) result }
+        ensures named { IfErr result IsStartCause }
     {
         match self.book.start() {
             Ok((found, heard)) => {
@@ -189,6 +190,7 @@ impl<E: Extent> Entry<E> {
         requires { disk ≤ 64 }
         ensures set { self.new ≡ record self.old { broken = set self.old.broken disk true } }
         ensures each { (other : ℕ) → is_broken self.new.broken other ≡ ((other == disk) || is_broken self.old.broken other) }
+        ensures count { length self.new.broken ≡ length self.old.broken }
     {
         self.broken[disk as usize] = true;
     }

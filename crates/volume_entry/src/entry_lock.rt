@@ -1,6 +1,6 @@
 //! How an entry locks its volume for a task, and gives a move of the lock a new destination.
 
-ghost use Rattle.std.specs.Prelude.{◌≡◌, ◌≤◌, ◌<◌, ℕ, None, IfErr, IfSome, IsSome};
+ghost use Rattle.std.specs.Prelude.{◌≡◌, ◌≤◌, ◌<◌, ℕ, None, IfErr, IfOk, IfSome, IsSome};
 ghost use Rattle.unit_id.specs.declared.targets.Target.{Target};
 ghost use Rattle.code_mode.specs.VolumeShape.{last_time};
 ghost use Rattle.disk_base.specs.Disk.{Lasts};
@@ -9,8 +9,9 @@ ghost use Rattle.volume_entry.specs.Manager.{IsDisk, IsLegal, ManagerRecord};
 ghost use Rattle.volume_entry.specs.ManagerStep.{AreTargets, lock_record, lock_refusal, retarget_record, retarget_refusal};
 ghost use Rattle.volume_entry.specs.RecordBytes.{record_of};
 ghost use Rattle.volume_entry.specs.TableParts.{shape_of};
-ghost use Rattle.volume_entry.specs.Entry.{AnswersAs, EntryCall, FitsEvent, is_broken, HasRoomIfOpen, Rules, Steps, WritesStep};
+ghost use Rattle.volume_entry.specs.Entry.{AnswersAs, EntryCall, FitsEvent, is_broken, IsNoGrant, HasRoomIfOpen, Rules, Steps, WritesStep};
 ghost use Rattle.volume_entry.specs.Granting.{HaveMoves, WritesGrant};
+ghost use Rattle.volume_entry.specs.Places.{GrantsPlaces};
 ghost use Rattle.volume_entry.specs.declared.event.ManagerEvent.TheVariants.{Lock, Retarget};
 
 use crate::entry::Entry;
@@ -24,7 +25,7 @@ use unit_id::{Target, Targets};
 impl<E: Extent> Entry<E> {
     /// A task locks the volume at this time, to move units to these targets: at least one, at most as many as a quorum has
     /// beyond the data shards, each of another index, in order of indexes, on disks that the volume may use. What was heard
-    /// of units is forgotten.
+    /// of units is forgotten. Whatever the file tells, a grant shows units of this volume, each on one of its disks.
     ///
     /// # Errors
     ///
@@ -44,6 +45,7 @@ impl<E: Extent> Entry<E> {
         ensures grows { EndGrows self.old.book.log.end self.new.book.log.end }
         ensures moments { CrashLeaves E.seen (lock_record task targets.now self.old.book.part) self.old.book self.new.book }
         ensures kinds { AnswersAs (Lock task targets.now) self.old.book.log.end result }
+        ensures places { IfOk result (GrantsPlaces self.old.book.vid (shape_of self.old.book.shape)) }
     {
         let wanted = targets.as_slice();
         match self.lock_answer(now, wanted) {
@@ -58,6 +60,7 @@ impl<E: Extent> Entry<E> {
         requires targets { AreTargets (shape_of self.now.book.shape) targets.now }
         ensures rules { (task : ℕ) → Rules E.seen now (Lock task targets.now) (lock_refusal (is_broken self.now.broken) now targets.now) self.now result }
         ensures kinds { (task : ℕ) → IfSome result (AnswersAs (Lock task targets.now) self.now.book.log.end) }
+        ensures grants { IfSome result (λ answer. IfOk answer IsNoGrant) }
         ensures open_ { result ≡ None → IsSome self.now.book.log.end }
         ensures legal { result ≡ None → (task : ℕ) → IsLegal (shape_of self.now.book.shape) self.now.book.part (lock_record task targets.now self.now.book.part) }
     {
@@ -79,6 +82,7 @@ impl<E: Extent> Entry<E> {
         ensures grows { EndGrows self.old.book.log.end self.new.book.log.end }
         ensures moments { CrashLeaves E.seen (lock_record task targets.now self.old.book.part) self.old.book self.new.book }
         ensures kinds { AnswersAs (Lock task targets.now) self.old.book.log.end result }
+        ensures places { IfOk result (GrantsPlaces self.old.book.vid (shape_of self.old.book.shape)) }
     {
         let grants = self.book.grants_of(targets)?;
         let moves = self.book.moves_for(&grants)?;
@@ -108,7 +112,7 @@ impl<E: Extent> Entry<E> {
     }
 
     /// The task that has the lock gives the unit of an index another disk to go to, since the disk to which it was to go
-    /// is broken. Rows that were heard at the old destination are forgotten.
+    /// is broken. Rows that were heard at the old destination are forgotten. What a grant shows is as for `lock`.
     ///
     /// # Errors
     ///
@@ -122,6 +126,7 @@ impl<E: Extent> Entry<E> {
         ensures grows { EndGrows self.old.book.log.end self.new.book.log.end }
         ensures moments { CrashLeaves E.seen (retarget_record index disk self.old.book.part) self.old.book self.new.book }
         ensures kinds { AnswersAs (Retarget task index disk) self.old.book.log.end result }
+        ensures places { IfOk result (GrantsPlaces self.old.book.vid (shape_of self.old.book.shape)) }
     {
         match self.retarget_answer(task, index, disk) {
             Some(answer) => answer,
@@ -140,6 +145,7 @@ impl<E: Extent> Entry<E> {
         requires disk { IsDisk (shape_of self.now.book.shape) disk }
         ensures rules { (time : ℕ) → Rules E.seen time (Retarget task index disk) (retarget_refusal (is_broken self.now.broken) task index disk) self.now result }
         ensures kinds { IfSome result (AnswersAs (Retarget task index disk) self.now.book.log.end) }
+        ensures grants { IfSome result (λ answer. IfOk answer IsNoGrant) }
         ensures open_ { result ≡ None → IsSome self.now.book.log.end }
         ensures legal { result ≡ None → IsLegal (shape_of self.now.book.shape) self.now.book.part (retarget_record index disk self.now.book.part) }
     {
@@ -161,6 +167,7 @@ impl<E: Extent> Entry<E> {
         ensures grows { EndGrows self.old.book.log.end self.new.book.log.end }
         ensures moments { CrashLeaves E.seen (retarget_record target.index target.disk self.old.book.part) self.old.book self.new.book }
         ensures kinds { (task : ℕ) → AnswersAs (Retarget task target.index target.disk) self.old.book.log.end result }
+        ensures places { IfOk result (GrantsPlaces self.old.book.vid (shape_of self.old.book.shape)) }
     {
         let grant = self.book.grant_of(target);
         self.write_retarget(grant)?;

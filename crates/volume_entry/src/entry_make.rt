@@ -1,11 +1,12 @@
 //! How an entry is made in a new file.
 
-ghost use Rattle.std.specs.Prelude.{◌≡◌, ◌≤◌, ◌↔◌, [], Some, IsTrue, IfOk};
+ghost use Rattle.std.specs.Prelude.{◌≡◌, ◌≤◌, ◌+◌, ◌↔◌, [], Some, IsTrue, IfOk, OnOk};
+ghost use Rattle.disk_base.specs.Disk.{Lasts};
 ghost use Rattle.gate_log.specs.LogFile.{end_place};
 ghost use Rattle.volume_entry.specs.Manager.{AreFirstHomes};
 ghost use Rattle.volume_entry.specs.RecordBytes.{IsShort, record_of};
 ghost use Rattle.volume_entry.specs.TableParts.{shape_of};
-ghost use Rattle.volume_entry.specs.Book.{CountsFault, HasRoomFor, item_size};
+ghost use Rattle.volume_entry.specs.Book.{CountsFault, GrowsUpTo, HasRoomFor, item_size};
 ghost use Rattle.volume_entry.specs.Making.{IsNew, IsReady, Makes, Opens, Begins};
 
 use crate::appending::append_item;
@@ -53,6 +54,7 @@ fn is_at(end: Option<u64>, place: u64) -> bool
 fn open_empty<E: Extent>(log: &mut GateLog<E>) -> Result<(), EntryFault>
     requires { IsNew (E.seen log.old.file) }
     ensures counts { CountsFault (E.seen log.old.file).faults (E.seen log.new.file).faults result }
+    ensures lasts { Lasts (E.seen log.old.file) (E.seen log.new.file) }
     ensures opens { Opens E.seen log.old log.new result }
 {
     match log.start() {
@@ -78,6 +80,8 @@ fn write_first<E: Extent>(
     requires short { IsShort (record_of item.now) }
     requires room { HasRoomFor (item_size vid mode (record_of item.now)) (Some (end_place [])) }
     ensures counts { CountsFault (E.seen log.old.file).faults (E.seen log.new.file).faults result }
+    ensures lasts { Lasts (E.seen log.old.file) (E.seen log.new.file) }
+    ensures grows { OnOk result (GrowsUpTo (5 + item_size vid mode (record_of item.now)) (Some (end_place [])) log.new.end) }
     ensures begins { Begins E.seen vid mode (record_of item.now) log.old log.new result }
 {
     open_empty(log)?;

@@ -10,6 +10,7 @@ ghost use Rattle.volume_entry.specs.HeardCalls.{AreFresh};
 ghost use Rattle.volume_entry.specs.TableParts.{shape_of};
 ghost use Rattle.volume_entry.specs.Entry.{RefusesBy, is_broken};
 ghost use Rattle.volume_entry.specs.Granting.{AreWithinLast, grant_shown, number_of};
+ghost use Rattle.volume_entry.specs.Places.{GrantsPlaces};
 
 use crate::book::Book;
 use crate::event::ManagerReply;
@@ -127,7 +128,8 @@ impl<E: Extent> Book<E> {
 
     /// What the lock grants.
     pub fn granted(&self, broken: &[bool]) -> ManagerReply
-        ensures { result ≡ grant_shown self.now.vid broken.now self.now.part }
+        ensures shown { result ≡ grant_shown self.now.vid broken.now self.now.part }
+        ensures places { GrantsPlaces self.now.vid (shape_of self.now.shape) result }
     {
         ManagerReply::Granted {
             lock: number_of(&self.table.lock),

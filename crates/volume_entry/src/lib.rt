@@ -10,7 +10,8 @@
 //! stands, and each call says of every such part what it answers and what the entry stands for then. A step writes its record
 //! before it is answered; a call on the file that fails shuts the log, until a start reads all records anew and tells whether
 //! the record in doubt was found. `specs/Making` says what a making leaves, `specs/Book` what the log of a book says,
-//! `specs/HeardMemory` what memory has of answers, and `specs/Sending` which requests may be sent.
+//! `specs/HeardMemory` what memory has of answers, `specs/Sending` which requests may be sent, and `specs/Places` which units and
+//! disks a look and a grant show, whatever the file tells.
 //!
 //! Public: `Entry` with `make`, `start`, the steps `lease`, `lock`, `retarget`, `swap`, `unlock`, `ask` and `commit`, further
 //! `reserve`, `hear`, `look`, `may_send`, `break_disk`, `end` and `into_file`; `Shape`, `UnitHome` and `are_first_homes` for its

@@ -1,11 +1,13 @@
 //! What a look at a volume shows.
 
-ghost use Rattle.std.specs.Prelude.{◌≡◌, ◌≤◌, ◌∷◌, [], cond, length, Some, option_copied};
+ghost use Rattle.std.specs.Prelude.{◌≡◌, ◌≤◌, ◌∷◌, [], cond, length, Some, IfOk, option_copied};
 ghost use Rattle.volume_entry.specs.Manager.{transfers_of};
 ghost use Rattle.volume_entry.specs.View.{homes_shown, moves_shown};
 ghost use Rattle.volume_entry.specs.ShownView.{lock_shown, view_shown};
 ghost use Rattle.volume_entry.specs.Book.{IsEpoch, AreNamed, AreMovesNamed};
 ghost use Rattle.volume_entry.specs.Entry.{is_broken, Looks};
+ghost use Rattle.volume_entry.specs.Places.{ShowsPlaces};
+ghost use Rattle.volume_entry.specs.TableParts.{shape_of};
 
 use crate::book::Book;
 use crate::counting::is_broken;
@@ -99,7 +101,8 @@ fn lock_shown(vid: u32, broken: &[bool], lock: Option<&HeldLock>) -> Option<Lock
 impl<E: Extent> Book<E> {
     /// The volume at this time, with these flags of broken disks.
     fn shown(&self, now: u64, broken: &[bool]) -> View
-        ensures { result ≡ view_shown self.now.vid (is_broken broken.now) now self.now.part }
+        ensures shown { result ≡ view_shown self.now.vid (is_broken broken.now) now self.now.part }
+        ensures places { ShowsPlaces self.now.vid (shape_of self.now.shape) result }
     {
         let vid = self.vid;
         let held = lock_shown(vid, broken, self.table.lock.as_ref());
@@ -115,13 +118,15 @@ impl<E: Extent> Book<E> {
 }
 
 impl<E: Extent> Entry<E> {
-    /// What a look shows at this time. It makes no call on the file and takes no memory.
+    /// What a look shows at this time. It makes no call on the file and takes no memory. Whatever the file tells, it shows
+    /// units of this volume, each on one of its disks.
     ///
     /// # Errors
     ///
     /// `Shut` exactly where the log is shut.
     pub fn look(&self, now: u64) -> Result<View, EntryFault>
-        ensures { Looks E.seen now self.now result }
+        ensures looks { Looks E.seen now self.now result }
+        ensures places { IfOk result (ShowsPlaces self.now.book.vid (shape_of self.now.book.shape)) }
     {
         if self.book.end().is_none() {
             return Err(EntryFault::Shut);

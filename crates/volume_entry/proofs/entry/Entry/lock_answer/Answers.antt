@@ -1,6 +1,6 @@
 use Rattle.volume_entry.proofs.EntryKinds.{lock_answers}
 use Rattle.std.proofs.Common.{◌∙◌, sym, ap, refl, subst, Some, Ok}
-use Rattle.std.specs.Prelude.{is_some, not}
+use Rattle.std.specs.Prelude.{IsSome, is_some, not}
 use Rattle.volume_entry.specs.Manager.{IsLegal}
 use Rattle.volume_entry.specs.ManagerStep.{lock_record, lock_refusal}
 use Rattle.volume_entry.specs.TableParts.{shape_of}
@@ -27,4 +27,5 @@ returns-in-None-clause-legal g c = λ none task.
 
 pub returns-in-Some-clause-kinds : goal.returns-in-Some-clause-kinds
 returns-in-Some-clause-kinds g c = λ task.
-    lock_answers c.self.inside.book.part c.in-Some.reply (is_broken c.self.inside.broken) c.args.now task c.args.targets.now c.in-Some.ensures.refuses
+    let open_ : IsSome c.args.self.now.book.log.end = subst (λ (s : EntryOver g.row.E.Denot). IsSome s.book.log.end) c.self.view_is (ap is_some (sym c.end.ensures) ∙ c.is_none.ensures ∙ ap not c.if-is_none.false) in
+    (open_, lock_answers c.self.inside.book.part c.in-Some.reply (is_broken c.self.inside.broken) c.args.now task c.args.targets.now c.in-Some.ensures.refuses)

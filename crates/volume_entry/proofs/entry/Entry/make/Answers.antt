@@ -1,4 +1,5 @@
-use Rattle.std.proofs.Common.{◌∙◌, ap, subst, replicate, false, None, Ok}
+use Rattle.std.proofs.Common.{◌∙◌, ap, refl, subst, replicate, false, None, Ok}
+use Rattle.disk_base.specs.Disk.{Lasts}
 use Rattle.gate_log.specs.GateLog.{LogOver}
 use Rattle.volume_entry.specs.RecordBytes.{record_of}
 use Rattle.volume_entry.specs.TableParts.{part_of}
@@ -22,4 +23,7 @@ returns g c =
     subst (λ old. Begins g.E.Extent.seen c.args.vid c.args.shape.mode (record_of c.in-Ok.item) old log (Ok tt)) c.over-log.ensures c.in-Ok-write_first.ensures.begins in
     made_ok g.E.Extent.seen c.args.vid c.args.shape c.args.homes.now c.requires.homes c.args.file log (part_of c.in-Ok.table) c.in-Ok.ensures.1 (record_of c.in-Ok.item) c.in-Ok.ensures.0 begins
     c.in-Ok.heard c.in-Ok.ensures.2 (replicate 65 false)
-    (c.in-Ok-write_first.ensures.counts ∙ ap (λ (old : LogOver g.row.E.Denot). (g.E.Extent.seen old.file).faults) c.over-log.ensures) (no_flag 65)
+    (c.in-Ok-write_first.ensures.counts ∙ ap (λ (old : LogOver g.row.E.Denot). (g.E.Extent.seen old.file).faults) c.over-log.ensures)
+    c.in-Ok-write_first.ensures.grows
+    (subst (λ (old : LogOver g.row.E.Denot). Lasts (g.E.Extent.seen old.file) (g.E.Extent.seen c.write_first.new.log.file)) c.over-log.ensures c.in-Ok-write_first.ensures.lasts)
+    (no_flag 65) refl

@@ -1,6 +1,6 @@
 use Rattle.volume_entry.proofs.EntryKinds.{retarget_answers}
 use Rattle.std.proofs.Common.{◌∙◌, sym, ap, refl, subst, Some, Ok}
-use Rattle.std.specs.Prelude.{is_some, not}
+use Rattle.std.specs.Prelude.{IsSome, is_some, not}
 use Rattle.volume_entry.specs.ManagerStep.{retarget_refusal}
 use Rattle.volume_entry.specs.Entry.{EntryOver, is_broken, Rules}
 use Rattle.volume_entry.specs.declared.event.ManagerEvent.TheVariants.{Retarget}
@@ -21,4 +21,5 @@ returns-in-Some-clause-rules g c = λ time.
 
 pub returns-in-Some-clause-kinds : goal.returns-in-Some-clause-kinds
 returns-in-Some-clause-kinds g c =
-    retarget_answers c.self.inside.book.part c.in-Some.reply (is_broken c.self.inside.broken) c.args.task c.args.index c.args.disk c.in-Some.ensures.refuses
+    let open_ : IsSome c.args.self.now.book.log.end = subst (λ (s : EntryOver g.row.E.Denot). IsSome s.book.log.end) c.self.view_is (ap is_some (sym c.end.ensures) ∙ c.is_none.ensures ∙ ap not c.if-is_none.false) in
+    (open_, retarget_answers c.self.inside.book.part c.in-Some.reply (is_broken c.self.inside.broken) c.args.task c.args.index c.args.disk c.in-Some.ensures.refuses)
