@@ -48,7 +48,7 @@ none_late items item e there = subst (IsIn item) e there
 pub none_made : (homes : List Location) (disk : ℕ) → HasNone disk (fresh homes (λ place. false)).units
 none_made homes disk place there = (refl, record { unreleased = refl; settled_ = refl })
 
-unit_more : (homes : List Location) (is_made : Place → Bool) (place : Place) → with_unit place (fresh homes is_made).units ≡ (fresh homes (with_at place true is_made)).units
+pub unit_more : (homes : List Location) (is_made : Place → Bool) (place : Place) → with_unit place (fresh homes is_made).units ≡ (fresh homes (with_at place true is_made)).units
 unit_more homes is_made place = λ i. record {
   is_made = with_at place true is_made;
   row = with_same place (λ (p : Place) (bid : ℕ). None) i;

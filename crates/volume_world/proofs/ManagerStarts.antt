@@ -20,19 +20,15 @@ use Rattle.volume_world.specs.Told.{MayBe, event_told}
 use Rattle.volume_world.specs.Trace.{event_kept, trace_of}
 use Rattle.volume_world.specs.World.{WorldOver, Stands}
 use Rattle.volume_world.specs.WorldSteps.{LeadsOn, Gives}
+use Rattle.volume_world.specs.Opening.{NeedsLog, settle_entry}
 use Rattle.volume_world.specs.ManagerReplies.{start_refusal}
 use Rattle.volume_world.specs.declared.event.Event.{Event}
 use Rattle.volume_world.specs.declared.event.Event.TheVariants as events
 use Rattle.volume_world.specs.declared.reply.Reply.TheVariants as replies
-use Rattle.volume_world.specs.declared.trace.Trace.{Trace}
 use Rattle.volume_world.specs.declared.trace.TraceEvent.TheVariants as kept_event
 use Rattle.volume_world.specs.declared.trace.TraceReply.TheVariants as kept_reply
-use Rattle.volume_world.proofs.OneMove.{NeedsLog, entry_of, entry_of_move, entry_of_refusal}
+use Rattle.volume_world.proofs.OneMove.{entry_of, entry_of_move, entry_of_refusal}
 use Rattle.volume_world.proofs.WorldFrames.{stands_with}
-
--- the log was shut, and is started
-abbrev pub settle_entry : Bool → Trace
-settle_entry is_found = record { event = kept_event.Settle 0 is_found; reply = kept_reply.Done }
 
 -- a manager's part that is new in a state
 abbrev pub with_manager : Manager → World → World

@@ -26,12 +26,13 @@ use Rattle.volume_world.specs.Told.{event_told, Tells}
 use Rattle.volume_world.specs.ManagerReplies.{step_reply, volume_event, volume_reply}
 use Rattle.volume_world.specs.World.{WorldOver, Stands}
 use Rattle.volume_world.specs.WorldSteps.{IsOneVolume, LeadsOn, Gives}
+use Rattle.volume_world.specs.Opening.{NeedsLog}
 use Rattle.volume_world.specs.declared.event.Event.TheVariants as events
 use Rattle.volume_world.specs.declared.reply.Reply.TheVariants as replies
 use Rattle.volume_world.specs.declared.trace.TraceEvent.TheVariants as kept_event
 use Rattle.volume_world.specs.declared.trace.TraceReply.TheVariants as kept_reply
 use Rattle.volume_world.proofs.WorldFrames.{noted, stands_with}
-use Rattle.volume_world.proofs.OneMove.{IsOneMove, NeedsLog, entry_of_move}
+use Rattle.volume_world.proofs.OneMove.{IsOneMove, entry_of_move}
 
 -- tests that agree on every disk are one
 pub same_tests : (flags : List Bool) (broken : ℕ → Bool) → ((disk : ℕ) → broken disk ≡ is_broken flags disk) → is_broken flags ≡ broken

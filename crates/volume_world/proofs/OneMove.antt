@@ -9,6 +9,7 @@ use Rattle.volume_world.specs.Run.{World, Does, IsRefusedByLog}
 use Rattle.volume_world.specs.Trace.{event_kept, trace_of}
 use Rattle.volume_world.specs.Told.{event_told, Tells, MayBe}
 use Rattle.volume_world.specs.Way.{Origin, shape_of}
+use Rattle.volume_world.specs.Opening.{NeedsLog}
 use Rattle.volume_world.specs.Course.{IsDone}
 use Rattle.volume_world.specs.declared.event.Event.{Event}
 use Rattle.volume_world.specs.declared.event.Event.TheVariants as events
@@ -32,16 +33,6 @@ one_move shape w (ToldEvent.Send request) reply t one h = absurd one
 one_move shape w ToldEvent.FlushOne reply t one h = absurd one
 one_move shape w (ToldEvent.Settle disk is_found) reply t one h = absurd one
 one_move shape w event reply t one h = ((t, h, refl), refl)
-
--- an event that needs the manager's log
-abbrev pub NeedsLog : ToldEvent → Type 0
-NeedsLog (ToldEvent.Tick by) = ⊥
-NeedsLog (ToldEvent.Plan disk fate count) = ⊥
-NeedsLog (ToldEvent.Break disk) = ⊥
-NeedsLog (ToldEvent.Restart disk) = ⊥
-NeedsLog ToldEvent.RestartManager = ⊥
-NeedsLog (ToldEvent.Settle disk is_found) = ⊥
-NeedsLog event = Unit {0}
 
 refused : (w : World) (event : ToldEvent) → NeedsLog event → w.state.manager.is_shut ≡ true → IsRefusedByLog w event ToldReply.Fault w
 refused w (ToldEvent.Tick by) needs shut = absurd needs

@@ -107,7 +107,7 @@ module _ (mode : Mode) (puts : Puts) (place : Place) where
 
   -- ---- what was written
 
-  settled_begun : (found : Option Bool) (written : Written) → HasBegun mode puts place written → HasBegun mode puts place (written_by found written)
+  pub settled_begun : (found : Option Bool) (written : Written) → HasBegun mode puts place written → HasBegun mode puts place (written_by found written)
   settled_begun None written begun = begun
   settled_begun (Some true) written begun = record { rows_are = item_begun written.items written.doubt begun.rows_are begun.doubt_is; doubt_is = tt }
   settled_begun (Some false) written begun = record { rows_are = begun.rows_are; doubt_is = tt }

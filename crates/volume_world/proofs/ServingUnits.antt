@@ -130,7 +130,7 @@ over {A} place q f x y = go (is_place q place) where
   go true = refl
   go false = refl
 
-open_below : (place q : Place) (f : Place → Bool) → with_at place false f q ≡ true → f q ≡ true
+pub open_below : (place q : Place) (f : Place → Bool) → with_at place false f q ≡ true → f q ≡ true
 open_below place q f = go (is_place q place) where
   go : (test : Bool) → cond test false (f q) ≡ true → f q ≡ true
   go true e = absurd (never_both false refl e)

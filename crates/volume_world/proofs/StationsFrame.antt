@@ -29,7 +29,7 @@ use Rattle.blob_node.proofs.Holdings.{never_both}
 use Rattle.blob_node.proofs.Answering.{shows_none}
 use Rattle.blob_node.proofs.Serving.{name_is}
 use Rattle.blob_node.proofs.Standing.{SameAt, same_then, with_same, loosened, after_elsewhere, settled_by_elsewhere}
-use Rattle.volume_world.specs.Stations.{AreOn, AreStations, HasDisk, is_broken_on, AllStand, AnswersBy, HandlesBy, Handled, faults_of, CountsFault, StationsCall, TellsDoubt, BreaksDown}
+use Rattle.volume_world.specs.Stations.{AreOn, AreStations, AreAlike, HasDisk, is_broken_on, AllStand, AnswersBy, HandlesBy, Handled, faults_of, CountsFault, StationsCall, TellsDoubt, BreaksDown}
 
 -- ---- a list with one station replaced by another
 
@@ -309,6 +309,16 @@ module _ {H F : Type 0} (shelf_seen : H → ShelfView F) (seen : F → FileView)
   all_broken zero (s ∷ ss) was written units less at all = (stands_broken was written units (subst (λ x. Stands shelf_seen seen x written units) (sym at) all.0), all.1)
   all_broken (suc place) (s ∷ ss) was written units less at all = (all.0, all_broken place ss was written units (omega (arith, less)) at all.1)
 
+  all_alike : (stations : List (StationOver H F)) → AreAlike stations stations
+  all_alike [] = tt
+  all_alike (s ∷ ss) = (refl, all_alike ss)
+
+  -- only a flag is set
+  alike_but_one : (place : ℕ) (old : List (StationOver H F)) (was : StationOver H F) → was ≡ get_or old place was → AreAlike old (set old place (record was { is_broken = true }))
+  alike_but_one place [] was at = tt
+  alike_but_one zero (s ∷ ss) was at = ((λ i. record (at i) { is_broken = true }), all_alike ss)
+  alike_but_one (suc place) (s ∷ ss) was at = (refl, alike_but_one place ss was at)
+
   breaks_one : (vid place disk : ℕ) (old : List (StationOver H F)) (was : StationOver H F) → AreOn vid 1 old → place < length old → was ≡ get_or old place was → disk ≡ 1 + place
       → BreaksDown shelf_seen seen disk (record { vid = vid; stations = old }) (record { vid = vid; stations = set old place (record was { is_broken = true }) })
   breaks_one vid place disk old was on less at disk_is = record {
@@ -316,6 +326,7 @@ module _ {H F : Type 0} (shelf_seen : H → ShelfView F) (seen : F → FileView)
     count = length-set old place (record was { is_broken = true });
     broken = λ other. broken_down vid 1 place old was other on less at ∙ ap (λ d. (other == d) || is_broken_on old other) (sym disk_is);
     faults = let same = sums place old was (record was { is_broken = true }) less at in omega (arith, same);
+    alike = alike_but_one place old was at;
     stand = λ written units all. all_broken place old was written units less at all;
   }
 

@@ -78,16 +78,17 @@ module _ {H F : Type 0} (shelf_seen : H → ShelfView F) (seen : F → FileView)
   here_is same = same ∙ (on_at vid 1 place old was on less at).1 ∙ sym disk_is
 
   -- the station of the disk restarts for all
-  pub restarted_all : (result : Result answered.Answer NoMemory) → now.disk ≡ was.disk → single.Restarted shelf_seen seen items result was now → Restarted shelf_seen seen disk items result old (set old place now)
-  restarted_all result same (inl still) =
+  pub restarted_all : (result : Result answered.Answer NoMemory) → now.vid ≡ was.vid → now.disk ≡ was.disk → single.Restarted shelf_seen seen items result was now → Restarted shelf_seen seen vid disk items result old (set old place now)
+  restarted_all result own same (inl still) =
       inl (broken_is ∙ still.0, still.1, still.2, ap (set old place) (still.3 ∙ at) ∙ set-get_or old place was)
-  restarted_all result same (inr restarts) = inr (
+  restarted_all result own same (inr restarts) = inr (
     broken_is ∙ restarts.0,
     λ written units all.
         let one = (restarts.1 written units (stands_at shelf_seen seen place old was written units less at all)).0 in
         record {
           restarts = by_result result written units (here_is same) all one.restarts;
           order = one.order;
+          own = λ item in_items. one.own item in_items ∙ own ∙ (on_at vid 1 place old was on less at).0;
           in_doubt = λ item in_items. subst (λ d. is_some (units.doubt (place_at item.unit d)) ≡ true) (here_is same) (one.in_doubt item in_items);
         },
   )

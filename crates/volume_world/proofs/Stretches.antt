@@ -11,7 +11,7 @@ own_more place (Part.Beside t ∷ ps) qs = own_more (suc place) ps qs ∙ ap (λ
 own_more place (Part.Settling t ∷ ps) qs = ap (λ xs. place ∷ xs) (own_more (suc place) ps qs ∙ ap (λ n. own_places (suc place) ps ++ own_places n qs) (omega arith))
 own_more place (Part.Asking e r ∷ ps) qs = ap (λ xs. place ∷ xs) (own_more (suc place) ps qs ∙ ap (λ n. own_places (suc place) ps ++ own_places n qs) (omega arith))
 
-faults_more : (ps qs : List Part) → fault_count (ps ++ qs) ≡ fault_count ps + fault_count qs
+pub faults_more : (ps qs : List Part) → fault_count (ps ++ qs) ≡ fault_count ps + fault_count qs
 faults_more [] qs = omega arith
 faults_more (p ∷ ps) qs = let ih = faults_more ps qs in omega arith
 
@@ -26,7 +26,7 @@ own_both (p ∷ ps) qs h k = λ part i. elim i [ inl e ↦ h part (inl e) | inr 
 pub traces_on : (ps qs : List Part) → traces_of (ps ++ qs) ≡ traces_of ps ++ traces_of qs
 traces_on ps qs = map-append trace_at ps qs
 
-traces_length : (ps : List Part) → length (traces_of ps) ≡ length ps
+pub traces_length : (ps : List Part) → length (traces_of ps) ≡ length ps
 traces_length [] = refl
 traces_length (p ∷ ps) = let ih = traces_length ps in omega arith
 

@@ -1,5 +1,5 @@
 -- The laws of a volume: what is kept, over every list of moves and every run; and what follows for a reader.
-use Rattle.std.specs.Prelude.{ℕ, ◌≡◌, ◌<◌, ◌≤◌, ◌⊎◌, ◌↔◌, Bool, true, false, not, ◌&&◌, List, Option, Some}
+use Rattle.std.specs.Prelude.{ℕ, ◌≡◌, ◌<◌, ◌≤◌, ◌⊎◌, ◌↔◌, Bool, true, false, not, ◌&&◌, List, Option, Some, is_some}
 use Rattle.unit_id.specs.Lists.{IsIn, is_in, count_below}
 use Rattle.unit_id.specs.Place.{Location, Place}
 use Rattle.code_mode.specs.VolumeShape.{VolumeShape, IsVolumeShape}
@@ -142,3 +142,36 @@ pub record RunsStayReadable : Type 0 where
   pub committed : (shape : VolumeShape) (homes : List Location) (is_made : Place → Bool) (w v : World) (steps : List Step) (bid : ℕ) → IsVolumeShape shape → AreFirstHomes shape homes
       → ((p : Place) → is_made p ≡ true → (p.index < shape.total) × (p ≡ current homes p.index)) → w.state ≡ fresh homes is_made → IsLegalRun shape w steps v → IsCommitted steps bid
       → count_below shape.total (holds v.state bid) < shape.data_count
+
+-- a volume as made, with the units of its first homes
+pub record IsAsMade (shape : VolumeShape) (s : State) : Type 0 where
+  pub homes : List Location
+  pub is_made : Place → Bool
+  pub legal : AreFirstHomes shape homes
+  pub made : (p : Place) → is_made p ≡ true → (p.index < shape.total) × (p ≡ current homes p.index)
+  pub state : s ≡ fresh homes is_made
+
+-- a unit stands: it was made and not released, and its disk isn't broken
+pub record IsStanding (s : State) (place : Place) : Type 0 where
+  pub made : s.units.is_made place ≡ true
+  pub unreleased : s.units.is_released place ≡ false
+  pub unbroken : s.broken place.disk ≡ false
+
+-- a unit on an unbroken disk has a record in doubt
+pub record IsDoubtful (s : State) (place : Place) : Type 0 where
+  pub doubtful : is_some (s.units.doubt place) ≡ true
+  pub unbroken : s.broken place.disk ≡ false
+
+-- at most one place on each disk has it
+abbrev pub IsOneADisk : (Place → Type 0) → Type 0
+IsOneADisk Has = (p q : Place) → Has p → Has q → p.disk ≡ q.disk → p ≡ q
+
+-- From a volume's making on at most one unit stands on each disk: after any list of moves, and after any run.
+pub record DisksHoldOneUnit : Type 0 where
+  pub moves : (shape : VolumeShape) (s t : State) (moves : List Move) → IsVolumeShape shape → IsAsMade shape s → MovesAll shape s moves t → IsOneADisk (IsStanding t)
+  pub runs : (shape : VolumeShape) (w v : World) (steps : List Step) → IsVolumeShape shape → IsAsMade shape w.state → IsLegalRun shape w steps v → IsOneADisk (IsStanding v.state)
+
+-- .. and on each at most one unit has a record in doubt
+pub record DoubtsAreSingle : Type 0 where
+  pub moves : (shape : VolumeShape) (s t : State) (moves : List Move) → IsVolumeShape shape → IsAsMade shape s → MovesAll shape s moves t → IsOneADisk (IsDoubtful t)
+  pub runs : (shape : VolumeShape) (w v : World) (steps : List Step) → IsVolumeShape shape → IsAsMade shape w.state → IsLegalRun shape w steps v → IsOneADisk (IsDoubtful v.state)

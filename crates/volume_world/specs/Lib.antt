@@ -18,6 +18,7 @@ pub mod Authority
 pub mod Support
 pub mod Form
 pub mod Invariant
+pub mod OldDisks
 pub mod Laws
 pub mod Examples
 pub mod Stories
@@ -34,7 +35,17 @@ pub mod Call
 pub mod Progress
 pub mod Stations
 pub mod Serving
+pub mod History
 pub mod World
 pub mod ManagerReplies
 pub mod WorldSteps
+pub mod Origins
+pub mod Stepping
+pub mod WorldWay
+pub mod Managing
+pub mod Opening
 pub mod Beginning
+pub mod Possible
+pub mod Restarting
+pub mod Sending
+pub mod WorldMaking

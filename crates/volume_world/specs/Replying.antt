@@ -3,6 +3,7 @@ use Rattle.std.specs.Prelude.{ℕ, suc, ◌≡◌, ◌+◌, ◌≤◌, List, [],
 use Rattle.unit_id.specs.declared.homes.Home.{Home}
 use Rattle.unit_id.specs.declared.moves.Move.{Move}
 use Rattle.volume_entry.specs.declared.view.LockView.{LockView}
+use Rattle.volume_entry.specs.declared.view.View.{View}
 use Rattle.volume_world.specs.Way.{Origin, shape_of}
 use Rattle.volume_world.specs.Asking.{IsUnitOn}
 use Rattle.volume_world.specs.declared.event.Event.{Event}
@@ -33,6 +34,11 @@ pub record AreMoves (origin : Origin) (moves : List Move) : Type 0 where
 abbrev pub AreHeldMoves : Origin → Option LockView → Type 0
 AreHeldMoves origin None = Unit {0}
 AreHeldMoves origin (Some lock) = AreMoves origin lock.moves
+
+-- what a view shows, of the volume's units and of the moves of its lock
+pub record ShowsView (origin : Origin) (view : View) : Type 0 where
+  pub homes : AreHomes origin view.units
+  pub moves : AreHeldMoves origin view.held
 
 -- what a reply shows of a lock's moves
 abbrev pub ShowsMoves : Origin → Reply → Type 0

@@ -51,6 +51,12 @@ abbrev pub is_broken_on : {H F : Type 0} → List (StationOver H F) → ℕ → 
 is_broken_on [] disk = false
 is_broken_on (station ∷ stations) disk = ((station.disk == disk) && station.is_broken) || is_broken_on stations disk
 
+-- the same stations, but for which of them are broken
+abbrev pub AreAlike : {H F : Type 0} → List (StationOver H F) → List (StationOver H F) → Type 0
+AreAlike [] [] = Unit {0}
+AreAlike (one ∷ ones) (other ∷ others) = (other ≡ record one { is_broken = other.is_broken }) × AreAlike ones others
+AreAlike ones others = ⊥
+
 module _ {H F : Type 0} (shelf_seen : H → ShelfView F) (seen : F → FileView) where
   -- each station stands for what was written to the units of its disk, and for what the protocol knows of them
   abbrev pub AllStand : List (StationOver H F) → (Place → Written) → Units → Type 0
@@ -101,6 +107,12 @@ module _ {H F : Type 0} (shelf_seen : H → ShelfView F) (seen : F → FileView)
     pub broken : (disk : ℕ) → is_broken_on new.stations disk ≡ is_broken_on old.stations disk
     pub counts : CountsFault old.stations new.stations result
 
+  -- each station is that of its disk still, and what lasts of it does
+  abbrev pub AllOutlast : List (StationOver H F) → List (StationOver H F) → Type 0
+  AllOutlast [] [] = Unit {0}
+  AllOutlast (one ∷ ones) (other ∷ others) = (other.vid ≡ one.vid) × (other.disk ≡ one.disk) × single.Outlasts shelf_seen seen one other × AllOutlast ones others
+  AllOutlast ones others = ⊥
+
   -- ---- a record in doubt
 
   -- whatever the stations stand for, it tells whether the unit that is asked has a record in doubt, on a broken disk too
@@ -116,6 +128,7 @@ module _ {H F : Type 0} (shelf_seen : H → ShelfView F) (seen : F → FileView)
     pub count : length new.stations ≡ length old.stations
     pub broken : (other : ℕ) → is_broken_on new.stations other ≡ ((other == disk) || is_broken_on old.stations other)
     pub faults : faults_of new.stations ≡ faults_of old.stations
+    pub alike : AreAlike old.stations new.stations
     pub stand : (written : Place → Written) (units : Units) → AllStand old.stations written units → AllStand new.stations written units
 
   -- ---- a restart
@@ -131,13 +144,14 @@ module _ {H F : Type 0} (shelf_seen : H → ShelfView F) (seen : F → FileView)
   RestartsBy disk written units items (Ok _) new = ⊥
   RestartsBy disk written units items (Err _) new = AllStand new (single.written_settled_by disk items written) (single.units_settled disk items units)
 
-  pub record Restarts (disk : ℕ) (written : Place → Written) (units : Units) (items : List Settled) (result : Result answered.Answer NoMemory) (new : List (StationOver H F)) : Type 0 where
+  pub record Restarts (vid disk : ℕ) (written : Place → Written) (units : Units) (items : List Settled) (result : Result answered.Answer NoMemory) (new : List (StationOver H F)) : Type 0 where
     pub restarts : RestartsBy disk written units items result new
     pub order : single.AreInOrder items
+    pub own : (item : Settled) → IsIn item items → item.unit.vid ≡ vid
     pub in_doubt : (item : Settled) → IsIn item items → is_some (units.doubt (place_at item.unit disk)) ≡ true
 
   -- a broken disk starts nothing
-  abbrev pub Restarted : ℕ → List Settled → Result answered.Answer NoMemory → List (StationOver H F) → List (StationOver H F) → Type 0
-  Restarted disk items result old new =
+  abbrev pub Restarted : ℕ → ℕ → List Settled → Result answered.Answer NoMemory → List (StationOver H F) → List (StationOver H F) → Type 0
+  Restarted vid disk items result old new =
       ((is_broken_on old disk ≡ true) × (items ≡ []) × (result ≡ Ok answers.Done) × (new ≡ old))
-      ⊎ ((is_broken_on old disk ≡ false) × ((written : Place → Written) (units : Units) → AllStand old written units → Restarts disk written units items result new))
+      ⊎ ((is_broken_on old disk ≡ false) × ((written : Place → Written) (units : Units) → AllStand old written units → Restarts vid disk written units items result new))

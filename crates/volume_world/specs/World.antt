@@ -29,20 +29,21 @@ use Rattle.volume_world.specs.PutBook.{KeptPuts, Books}
 use Rattle.volume_world.specs.Stations.{AllStand}
 use Rattle.volume_world.specs.declared.late.LateItem.{LateItem}
 use Rattle.volume_world.specs.declared.late.LateItem.TheVariants as items
-use Rattle.volume_world.specs.declared.trace.Trace.{Trace}
+use Rattle.volume_world.specs.History.{KeptHistory}
 
--- The volume's number, mode and disks; its stations, by disk; the manager's part; its puts; what is planned for messages, and those that come
--- late; the clock; and the history.
+-- The volume's number, mode and disks; the homes with which it was made; its stations, by disk; the manager's part; its puts; what is planned
+-- for messages, and those that come late; the clock; and the history.
 pub record WorldOver (H F : Type 0) : Type 0 where
   pub vid : ℕ
   pub shape : Shape
+  pub first : List Location
   pub stations : List (StationOver H F)
   pub entry : EntryOver F
   pub puts : KeptPuts
   pub planned : List (List Fate)
   pub late : KeptLate
   pub time : ℕ
-  pub history : List Trace
+  pub history : KeptHistory
 
 -- the shard is the one that belongs to the unit, of the payload with which the blob was begun
 pub record IsBegunShard (mode : Mode) (puts : Puts) (place : Place) (bid : ℕ) (shard : PayloadShard) : Type 0 where

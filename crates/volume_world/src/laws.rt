@@ -1,6 +1,6 @@
 //! What holds of a volume whatever moves are made.
 
-ghost use Rattle.volume_world.specs.Laws.{AcksAreExact, BytesStayAsBegun, IsAlwaysKept, IsReadable, IsUnreadable, OldEpochsAreFenced, ReleasesAreSafe, RunsAreBorneOut, RunsKeep, RunsStayReadable, StartsKept};
+ghost use Rattle.volume_world.specs.Laws.{AcksAreExact, BytesStayAsBegun, DisksHoldOneUnit, DoubtsAreSingle, IsAlwaysKept, IsReadable, IsUnreadable, OldEpochsAreFenced, ReleasesAreSafe, RunsAreBorneOut, RunsKeep, RunsStayReadable, StartsKept};
 
 /// A volume as made has what is kept.
 pub fn starts_kept()
@@ -61,4 +61,14 @@ pub fn runs_are_borne_out()
 /// run committed has fewer at all unbroken current units.
 pub fn runs_stay_readable()
     ensures { RunsStayReadable }
+{}
+
+/// From the making of a volume on, no disk that isn't broken has two of its units that were made and not released.
+pub fn disks_hold_one_unit()
+    ensures { DisksHoldOneUnit }
+{}
+
+/// From the making of a volume on, no disk that isn't broken has two units with a record in doubt.
+pub fn doubts_are_single()
+    ensures { DoubtsAreSingle }
 {}

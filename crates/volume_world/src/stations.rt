@@ -3,7 +3,7 @@
 ghost use Rattle.std.specs.Prelude.{◌≡◌, ◌≤◌, length};
 ghost use Rattle.unit_id.specs.Messages.{vid_of};
 ghost use Rattle.blob_node.specs.HeldUnit.{name_of, disk_of, CarriesShard};
-ghost use Rattle.volume_world.specs.Stations.{AreStations, HasDisk, is_broken_on, StationsCall, Handled, TellsDoubt, BreaksDown, Restarted};
+ghost use Rattle.volume_world.specs.Stations.{AreStations, HasDisk, is_broken_on, StationsCall, Handled, TellsDoubt, BreaksDown, Restarted, AllOutlast};
 
 use blob_node::{Settled, Station};
 use disk_base::{NoMemory, Shelf};
@@ -98,6 +98,7 @@ impl<H: Shelf> Stations<H> {
         requires sizes { CarriesShard request.now }
         ensures call { StationsCall H.seen H.File.seen self.old self.new result.1 }
         ensures told { Handled H.seen H.File.seen request.now result.0 result.1 self.old.stations self.new.stations }
+        ensures lasts { AllOutlast H.seen H.File.seen self.old.stations self.new.stations }
     {
         let place = disk_of(request) as usize - 1;
         if self.kept[place].is_broken() {
@@ -125,7 +126,8 @@ impl<H: Shelf> Stations<H> {
     pub(crate) fn restart(&mut self, disk: u32) -> (Vec<Settled>, Result<Answer, NoMemory>)
         requires { HasDisk self.old.stations disk }
         ensures call { StationsCall H.seen H.File.seen self.old self.new result.1 }
-        ensures told { Restarted H.seen H.File.seen disk result.0.items result.1 self.old.stations self.new.stations }
+        ensures told { Restarted H.seen H.File.seen self.old.vid disk result.0.items result.1 self.old.stations self.new.stations }
+        ensures lasts { AllOutlast H.seen H.File.seen self.old.stations self.new.stations }
     {
         let station = &mut self.kept[disk as usize - 1];
         station.restart()
@@ -149,8 +151,8 @@ fn unit_of(request: &Request) -> UnitName
     }
 }
 
-// The disk that is asked.
-fn disk_of(request: &Request) -> u32
+/// The disk that is asked.
+pub(crate) fn disk_of(request: &Request) -> u32
     ensures { result ≡ disk_of request.now }
 {
     match request {

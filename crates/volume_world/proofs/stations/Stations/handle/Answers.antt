@@ -2,7 +2,8 @@
 use Rattle.std.proofs.Common.{◌≡◌, ◌∙◌, ◌+◌, ◌-◌, set, sym, ap, subst, false, None, Ok}
 use Rattle.unit_id.specs.declared.answer.Answer.TheVariants as answers
 use Rattle.blob_node.specs.HeldUnit.{disk_of}
-use Rattle.volume_world.specs.Stations.{StationsOver, HasDisk, StationsCall, Handled}
+use Rattle.volume_world.specs.Stations.{StationsOver, HasDisk, StationsCall, Handled, AllOutlast}
+use Rattle.volume_world.proofs.StationsLasting.{all_last, set_lasts}
 use Rattle.volume_world.proofs.StationsFrame.{on_at, place_in, place_is, broken_on_disk, set_are, call_all, handled_all, broken_all}
 use Rattle.volume_world.proofs.stations.Stations.handle.Goals as goal
 
@@ -61,3 +62,17 @@ returns-clause-told g c =
     subst (λ (s : StationsOver g.row.H.Denot g.row.H-File.Denot). Handled g.H.Shelf.seen g.H.File.Extent.seen c.args.request.now c.handle.result.0 c.handle.result.1 s.stations (set items (disk - 1) c.handle.new.self)) c.self.view_is
     (handled_all g.H.Shelf.seen g.H.File.Extent.seen c.self.inside.vid (disk - 1) items was c.handle.new.self c.args.request.now c.self.invariant.on (place_in items disk has) c.index_mut-station.ensures.value asked
     c.handle.result.0 c.handle.result.1 unbroken c.handle.ensures.told)
+
+pub returns-clause-lasts : goal.returns-clause-lasts
+returns-clause-lasts g c =
+    let items = c.self.inside.kept.items in
+    let disk = c.disk_of.result in
+    let has : HasDisk items disk = subst (λ d. HasDisk items d) (sym c.disk_of.ensures) (subst (λ (s : StationsOver g.row.H.Denot g.row.H-File.Denot). HasDisk s.stations (disk_of c.args.request.now)) (sym c.self.view_is) c.requires.disk) in
+    subst (λ (s : StationsOver g.row.H.Denot g.row.H-File.Denot). AllOutlast g.H.Shelf.seen g.H.File.Extent.seen s.stations (set items (disk - 1) c.handle.new.self)) c.self.view_is
+    (set_lasts g.H.Shelf.seen g.H.File.Extent.seen (disk - 1) items c.index_mut-station.result.now c.handle.new.self (place_in items disk has) c.index_mut-station.ensures.value
+    c.handle.ensures.call.vid c.handle.ensures.call.disk c.handle.ensures.lasts)
+
+pub returns-then-is_broken-clause-lasts : goal.returns-then-is_broken-clause-lasts
+returns-then-is_broken-clause-lasts g c =
+    subst (λ (s : StationsOver g.row.H.Denot g.row.H-File.Denot). AllOutlast g.H.Shelf.seen g.H.File.Extent.seen s.stations s.stations) c.self.view_is
+    (all_last g.H.Shelf.seen g.H.File.Extent.seen c.self.inside.kept.items)
