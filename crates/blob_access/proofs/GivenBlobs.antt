@@ -37,7 +37,8 @@ use Rattle.blob_access.specs.Causes.{Cause, LastTry, IsAvailable, HasOtherSize, 
 use Rattle.blob_access.proofs.GetBytes.{seen_right, heard_right, ends_right}
 use Rattle.blob_access.proofs.Later.{IsLater, entry_later, parts_later, part_step}
 use Rattle.blob_access.proofs.LastTries.{over_answer, never_answers}
-use Rattle.blob_access.proofs.ShortCauses.{possible_kept, short_gets_have_a_cause}
+use Rattle.volume_world.proofs.PossibleStates.{possible_kept}
+use Rattle.blob_access.proofs.ShortCauses.{short_gets_have_a_cause}
 
 -- ---- calls
 

@@ -17,16 +17,16 @@ use Rattle.volume_world.specs.State.{State}
 use Rattle.volume_world.specs.BlobStatus.{is_acked, lacks, lacking}
 use Rattle.volume_world.specs.Run.{World}
 use Rattle.volume_world.specs.Invariant.{Kept}
-use Rattle.volume_world.specs.Told.{MayRun}
-use Rattle.volume_world.specs.Way.{Origin, WayView, shape_of}
+use Rattle.volume_world.specs.Way.{Origin, shape_of}
 use Rattle.volume_world.specs.Course.{Part, IsDone, PartsLead}
 use Rattle.volume_world.specs.Call.{Next}
 use Rattle.volume_world.specs.Progress.{Comes}
 use Rattle.volume_world.specs.declared.event.Event.TheVariants as events
 use Rattle.volume_world.specs.declared.reply.Reply.TheVariants as replies
-use Rattle.volume_world.proofs.Telling.{way_kept, entry_keeps}
+use Rattle.volume_world.proofs.PossibleStates.{possible_kept}
+use Rattle.volume_world.proofs.Telling.{entry_keeps}
 use Rattle.blob_access.specs.GetCall.{Wanted, Try, GetStage, get_call, unbroken, broken_count, first_read}
-use Rattle.blob_access.specs.Causes.{IsPossible, HasFailedRead, HasNoLook, AreFewBroken, Cause, ShortGetsHaveACause}
+use Rattle.blob_access.specs.Causes.{HasFailedRead, HasNoLook, AreFewBroken, Cause, ShortGetsHaveACause}
 use Rattle.blob_access.proofs.Holding.{data_some}
 use Rattle.blob_access.proofs.GetBytes.{seen_right}
 use Rattle.blob_access.proofs.Later.{IsLater, later_same, parts_later, part_step, between}
@@ -35,17 +35,6 @@ use Rattle.blob_access.proofs.LastTries.{has_try, leads_split}
 use Rattle.blob_access.proofs.LiveCounts.{IsCounted, StageCounts, reading_counts, shown_goods, shown_current, AreGood, comes_counts}
 
 -- ---- what is kept
-
-pub possible_kept : (origin : Origin) (w : World) → IsPossible origin w → Kept (shape_of origin) w.state
-possible_kept origin w h =
-    let way : WayView = record { origin = record origin { is_told = true }; entries = h.entries; own = []; faults = 0; is_alone = false; is_at = λ x. x ≡ w } in
-    way_kept way w (sound_shapes origin.mode origin.disks) (record {
-      first = h.first;
-      somewhere = λ told. (w, refl);
-      led = λ told x at. subst (MayRun origin.vid (shape_of origin) origin.start h.entries) (sym at) h.led;
-      own = record { below = λ n i. absurd i };
-      alone = λ e. cc;
-    }) refl refl
 
 pub parts_keep : (origin : Origin) (w : World) (parts : List Part) (v : World) → Kept (shape_of origin) w.state → PartsLead origin w parts v → Kept (shape_of origin) v.state
 parts_keep origin w [] v k h = subst (λ (x : World). Kept (shape_of origin) x.state) (sym h) k

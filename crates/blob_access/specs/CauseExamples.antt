@@ -8,12 +8,13 @@ use Rattle.volume_world.specs.State.{State}
 use Rattle.volume_world.specs.Examples.{small, nine_units}
 use Rattle.volume_world.specs.Run.{World}
 use Rattle.volume_world.specs.Way.{shape_of}
+use Rattle.volume_world.specs.Possible.{IsPossible}
 use Rattle.volume_world.specs.Course.{Part, PartsLead}
 use Rattle.volume_world.specs.declared.event.Event.TheVariants as events
 use Rattle.volume_world.specs.declared.reply.Reply.TheVariants as replies
 use Rattle.blob_access.specs.declared.fault.GetFault.TheVariants as faults
 use Rattle.blob_access.specs.GetCall.{GetsBy}
-use Rattle.blob_access.specs.Causes.{IsPossible, AreFewBroken}
+use Rattle.blob_access.specs.Causes.{AreFewBroken}
 use Rattle.blob_access.specs.StandIn.{stand_origin}
 
 -- nine units on disks 1 to 9, where the disks below this one are broken

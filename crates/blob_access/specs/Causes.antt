@@ -11,22 +11,15 @@ use Rattle.volume_entry.specs.declared.view.View.{View}
 use Rattle.volume_world.specs.State.{State}
 use Rattle.volume_world.specs.BlobStatus.{is_begun, is_acked}
 use Rattle.volume_world.specs.Run.{World}
-use Rattle.volume_world.specs.Told.{MayRun}
-use Rattle.volume_world.specs.Way.{Origin, IsFirst, shape_of}
+use Rattle.volume_world.specs.Way.{Origin, shape_of}
+use Rattle.volume_world.specs.Possible.{IsPossible}
 use Rattle.volume_world.specs.Course.{Part, PartsLead}
 use Rattle.volume_world.specs.declared.event.Event.TheVariants as events
 use Rattle.volume_world.specs.declared.reply.Reply.{Reply}
 use Rattle.volume_world.specs.declared.reply.Reply.TheVariants as replies
-use Rattle.volume_world.specs.declared.trace.Trace.{Trace}
 use Rattle.blob_access.specs.declared.fault.GetFault.{GetFault}
 use Rattle.blob_access.specs.declared.fault.GetFault.TheVariants as faults
 use Rattle.blob_access.specs.GetCall.{GetsBy, IsPayload}
-
--- The volume may be in this state: the entries of some history lead to it. Of a way that tells, each state in which its volume may be is such a one.
-pub record IsPossible (origin : Origin) (w : World) : Type 0 where
-  pub entries : List Trace
-  pub first : IsFirst (shape_of origin) origin.start
-  pub led : MayRun origin.vid (shape_of origin) origin.start entries w
 
 -- ---- causes
 

@@ -3,8 +3,8 @@ use Rattle.std.proofs.Common.{◌≡◌, ℕ, ◌<◌, ◌⊎◌, inl, inr, Bool
 use Rattle.std.specs.Prelude.{is_none}
 use Rattle.unit_id.specs.Lists.{IsIn, any, is_in, first_that_holds}
 use Rattle.unit_id.specs.UnitName.{Name}
-use Rattle.unit_id.specs.Place.{Location, Place, at_home, is_place}
-use Rattle.unit_id.specs.Request.{Request, Answer, place_of}
+use Rattle.unit_id.specs.Place.{Location, Place, at_home}
+use Rattle.unit_id.specs.Request.{Request, Answer}
 use Rattle.unit_id.specs.Messages.{place_at, answer_of}
 use Rattle.unit_id.specs.declared.homes.Home.{Home}
 use Rattle.unit_id.specs.declared.moves.Move.{Move}
@@ -16,12 +16,10 @@ use Rattle.unit_id.proofs.Bools.{contrary, or_left, or_right, and_both, equal_te
 use Rattle.unit_id.proofs.Membership.{gives_any}
 use Rattle.code_mode.specs.declared.mode.Mode.{Mode}
 use Rattle.code_mode.specs.VolumeShape.{VolumeShape}
-use Rattle.code_mode.proofs.Numbers.{sound_shapes}
-use Rattle.blob_node.specs.declared.fate.Fate.TheVariants as fate
 use Rattle.blob_node.specs.Units.{Units}
 use Rattle.blob_node.specs.UnitAnswer.{Effect, UnitView, Answers, view_at, units_after}
 use Rattle.volume_entry.specs.Manager.{Transfer, Lock, Manager, home_at, transfers_of, is_swapped, is_old_there}
-use Rattle.volume_entry.specs.ManagerStep.{is_of_other, has_unheard, unlock_refusal, task_of, Unlocks, hear}
+use Rattle.volume_entry.specs.ManagerStep.{is_of_other, has_unheard, unlock_refusal, task_of, Unlocks}
 use Rattle.volume_entry.specs.View.{moves_shown}
 use Rattle.volume_entry.specs.ShownView.{lock_shown, view_shown}
 use Rattle.volume_entry.specs.declared.view.LockView.{LockView}
@@ -29,19 +27,18 @@ use Rattle.volume_entry.specs.declared.view.View.{View}
 use Rattle.volume_entry.specs.Reply.{Reply}
 use Rattle.volume_world.specs.Event.{Event}
 use Rattle.volume_world.specs.State.{State}
-use Rattle.volume_world.specs.Move.{MovesAll, IsSendable, Looks}
-use Rattle.volume_world.specs.Run.{World, Planned, Step, Leads, Does, Sends, IsRefusedByLog, IsSent, next_fate, without_next, moves_of_send, reply_of_send}
+use Rattle.volume_world.specs.Move.{Looks}
+use Rattle.volume_world.specs.Run.{World, Step, Leads, Does, IsRefusedByLog}
 use Rattle.volume_world.specs.Invariant.{Kept}
-use Rattle.volume_world.specs.Told.{Tells, MayRun}
-use Rattle.volume_world.specs.Way.{Origin, WayView, shape_of}
-use Rattle.volume_world.specs.Course.{Part, PartsLead, IsWhole, IsDone}
+use Rattle.volume_world.specs.Told.{Tells}
+use Rattle.volume_world.specs.Way.{Origin, shape_of}
+use Rattle.volume_world.specs.Course.{Part, PartsLead, IsDone}
 use Rattle.volume_world.specs.Call.{Next, IsRest}
 use Rattle.volume_world.specs.Trace.{reply_kept}
-use Rattle.volume_world.specs.declared.event.Event.{Event as CodeEvent}
 use Rattle.volume_world.specs.declared.event.Event.TheVariants as events
 use Rattle.volume_world.specs.declared.reply.Reply.{Reply as CodeReply}
 use Rattle.volume_world.specs.declared.reply.Reply.TheVariants as replies
-use Rattle.volume_world.proofs.Telling.{way_kept}
+use Rattle.volume_world.proofs.PossibleStates.{possible_kept}
 use Rattle.migrate_task.specs.declared.stage.Stage.{Stage}
 use Rattle.migrate_task.specs.declared.stage.Stage.TheVariants as stages
 use Rattle.migrate_task.specs.declared.stage.TaskFault.{TaskFault}
@@ -50,46 +47,39 @@ use Rattle.migrate_task.specs.declared.stage.Why.TheVariants as why
 use Rattle.migrate_task.specs.declared.work.Journey.{Journey}
 use Rattle.migrate_task.specs.Work.{Work, home_of, journeys_to, journeys_from, with_broken}
 use Rattle.migrate_task.specs.AdvanceCall.{TaskStage, task_call, waits, retargeting, releasing, after_view, after_look, after_release, after_unlock, units_in}
-use Rattle.migrate_task.specs.Completion.{IsPossible, IsUntroubled, IsCalm, IsOpenAt, IsSwappedFor, SwappedTasksGetDone}
-
-possible_kept : (origin : Origin) (w : World) → IsPossible origin w → Kept (shape_of origin) w.state
-possible_kept origin w h =
-    let way : WayView = record { origin = record origin { is_told = true }; entries = h.entries; own = []; faults = 0; is_alone = false; is_at = λ x. x ≡ w } in
-    way_kept way w (sound_shapes origin.mode origin.disks) (record {
-      first = h.first;
-      somewhere = λ told. (w, refl);
-      led = λ told x at. subst (MayRun origin.vid (shape_of origin) origin.start h.entries) (sym at) h.led;
-      own = record { below = λ n i. absurd i };
-      alone = λ e. cc;
-    }) refl refl
+use Rattle.migrate_task.proofs.HeardSends.{Sent, IsTold, is_told}
+use Rattle.migrate_task.specs.Completion.{IsUntroubled, IsCalm, IsSwappedFor, SwappedTasksGetDone}
 
 -- ---- what holds while old units are released
 
 -- the journey is that of the transfer's old unit
-record IsJourneyOf (vid : ℕ) (t : Transfer) (j : Journey) : Type 0 where
-  unit : j.old.unit ≡ record { vid = vid; index = t.index; epoch = t.old.epoch }
-  disk : j.old.disk ≡ t.old.disk
+pub record IsJourneyOf (vid : ℕ) (t : Transfer) (j : Journey) : Type 0 where
+  pub unit : j.old.unit ≡ record { vid = vid; index = t.index; epoch = t.old.epoch }
+  pub disk : j.old.disk ≡ t.old.disk
 
 -- the old unit was heard to be released, is on a broken disk, or is still to be released
-abbrev IsSeenTo : ℕ → (ℕ → Bool) → List ℕ → List Journey → Transfer → Type 0
+abbrev pub IsSeenTo : ℕ → (ℕ → Bool) → List ℕ → List Journey → Transfer → Type 0
 IsSeenTo vid broken released left t = (is_in t.index released ≡ true) ⊎ ((broken t.old.disk ≡ true) ⊎ ((j : Journey) × IsIn j left × IsJourneyOf vid t j))
 
 -- what doesn't change: the lock, homes, and the disks that are broken
-record IsUnder (origin : Origin) (task : Task) (lock : Lock) (homes : List Location) (broken : ℕ → Bool) : Type 0 where
-  own : lock.task ≡ task.id
-  swapped : lock.is_swapped ≡ true
-  below : (t : Transfer) → IsIn t lock.transfers → t.index < (shape_of origin).total
-  older : (t : Transfer) → IsIn t lock.transfers → t.old.epoch < (home_at homes t.index).epoch
+pub record IsUnder (origin : Origin) (task : Task) (lock : Lock) (homes : List Location) (broken : ℕ → Bool) : Type 0 where
+  pub own : lock.task ≡ task.id
+  pub swapped : lock.is_swapped ≡ true
+  pub below : (t : Transfer) → IsIn t lock.transfers → t.index < (shape_of origin).total
+  pub older : (t : Transfer) → IsIn t lock.transfers → t.old.epoch < (home_at homes t.index).epoch
 
-record Standing (origin : Origin) (lock : Lock) (homes : List Location) (broken : ℕ → Bool) (w : World) (left : List Journey) : Type 0 where
-  held : w.state.manager.lock ≡ Some lock
-  homes_are : w.state.manager.homes ≡ homes
-  unshut : w.state.manager.is_shut ≡ false
-  unplanned : w.planned ≡ []
-  broken_are : w.state.broken ≡ broken
-  olds : (t : Transfer) → IsIn t lock.transfers → broken t.old.disk ≡ false → IsOpenAt w.state.units (at_home t.index t.old)
-  seen_to : (t : Transfer) → IsIn t lock.transfers → IsSeenTo origin.vid broken w.state.manager.heard.released left t
-  each : (j : Journey) → IsIn j left → (t : Transfer) × IsIn t lock.transfers × IsJourneyOf origin.vid t j
+pub record Standing (origin : Origin) (lock : Lock) (homes : List Location) (broken : ℕ → Bool) (w : World) (left : List Journey) : Type 0 where
+  pub held : w.state.manager.lock ≡ Some lock
+  pub homes_are : w.state.manager.homes ≡ homes
+  pub unshut : w.state.manager.is_shut ≡ false
+  pub unplanned : w.planned ≡ []
+  pub broken_are : w.state.broken ≡ broken
+  pub olds : (t : Transfer) → IsIn t lock.transfers → broken t.old.disk ≡ false → w.state.units.is_made (at_home t.index t.old) ≡ true
+  pub seen_to : (t : Transfer) → IsIn t lock.transfers → IsSeenTo origin.vid broken w.state.manager.heard.released left t
+  pub each : (j : Journey) → IsIn j left → (t : Transfer) × IsIn t lock.transfers × IsJourneyOf origin.vid t j
+
+abbrev IsMadeAt : Units → Place → Type 0
+IsMadeAt units p = units.is_made p ≡ true
 
 -- ---- a release
 
@@ -111,65 +101,6 @@ outcome view p (Answer.Full end) e made h = tt
 outcome view p Answer.Fault e made h = tt
 outcome view p a e made h = absurd h.1.1
 
--- what a request that isn't lost leaves
-record Sent (w u : World) (r : Request) (a : Answer) (e : Effect) : Type 0 where
-  answers : Answers (view_at w.state.broken w.state.units (place_of r)) r a e
-  units : u.state.units ≡ units_after (place_of r) r e w.state.units
-  manager : u.state.manager ≡ hear r a w.state.manager
-  broken : u.state.broken ≡ w.state.broken
-  planned : u.planned ≡ []
-
-record IsHeard (w u : World) (r : Request) (reply : Reply) : Type 0 where
-  answer : Answer
-  effect : Effect
-  heard : reply ≡ Reply.Heard answer
-  sent : Sent w u r answer effect
-
-by_moves : (total time : ℕ) (w u : World) (r : Request) (a : Answer) (e : Effect) (shape : VolumeShape) → MovesAll shape w.state (moves_of_send fate.Pass time r a e) u.state → u.planned ≡ [] → Sent w u r a e
-by_moves total time w u r a e shape m planned =
-    let one = m.1.2 in
-    let two = m.2.1.2 in
-    let three = m.2.2.1.1 in
-    let end = m.2.2.2 in
-    record {
-      answers = subst (λ (x : State). Answers (view_at x.broken x.units (place_of r)) r a e) one m.2.1.1;
-      units = ap (λ (x : State). x.units) end ∙ ap (λ (x : State). x.units) three ∙ ap (λ (x : State). x.units) two ∙ ap (λ (x : State). units_after (place_of r) r e x.units) one;
-      manager = ap (λ (x : State). x.manager) end ∙ ap (λ (x : State). x.manager) three ∙ ap (λ (x : State). hear r a x.manager) two ∙ ap (λ (x : State). hear r a x.manager) one;
-      broken = ap (λ (x : State). x.broken) end ∙ ap (λ (x : State). x.broken) three ∙ ap (λ (x : State). x.broken) two ∙ ap (λ (x : State). x.broken) one;
-      planned = planned;
-    }
-
-sent_heard : (shape : VolumeShape) (w u : World) (r : Request) (reply : Reply) → w.planned ≡ [] → IsSent shape w r reply u → IsHeard w u r reply
-sent_heard shape w u r reply unplanned h = record {
-  answer = h.answer;
-  effect = h.effect;
-  heard = subst (λ (ps : List Planned). reply ≡ reply_of_send (next_fate ps (place_of r).disk) h.answer) unplanned h.told;
-  sent = by_moves shape.total w.state.time w u r h.answer h.effect shape
-      (subst (λ (ps : List Planned). MovesAll shape w.state (moves_of_send (next_fate ps (place_of r).disk) w.state.time r h.answer h.effect) u.state) unplanned h.moves)
-      (subst (λ (ps : List Planned). u.planned ≡ without_next ps (place_of r).disk) unplanned h.planned);
-}
-
-sends_heard : (shape : VolumeShape) (w u : World) (r : Request) (reply : Reply) → IsSendable shape.total w.state.puts.status w.state.manager r → w.planned ≡ [] → Sends shape w r reply u → IsHeard w u r reply
-sends_heard shape w u r Reply.Barred may unplanned h = absurd (h.1 may)
-sends_heard shape w u r reply may unplanned h = sent_heard shape w u r reply unplanned h
-
-send_heard : (shape : VolumeShape) (w u : World) (r : Request) (step : Step) → step.event ≡ Event.Send r → w.state.manager.is_shut ≡ false → IsSendable shape.total w.state.puts.status w.state.manager r → w.planned ≡ []
-    → Leads shape w step u → IsHeard w u r step.reply
-send_heard shape w u r step e unshut may unplanned (inl h) = sends_heard shape w u r step.reply may unplanned (subst (λ event. Does shape w event step.reply u) e h)
-send_heard shape w u r step e unshut may unplanned (inr h) =
-    let refused = subst (λ event. IsRefusedByLog w event step.reply u) e h in absurd (contrary w.state.manager.is_shut refused.0 unshut)
-
--- the answer that the code was told
-record IsAnswered (reply : CodeReply) (a : Answer) : Type 0 where
-  answer : ToldAnswer
-  is : reply ≡ replies.Heard answer
-  same : a ≡ answer_of answer
-
-answered : (vid : ℕ) (mode : Mode) (s : State) (event : CodeEvent) (unit : Name) (disk : ℕ) (reply : CodeReply) (a : Answer) → Tells vid s (reply_kept reply) (Reply.Heard a)
-    → IsWhole mode s.puts (events.Send (requests.Release unit disk)) reply (Reply.Heard a) → IsAnswered reply a
-answered vid mode s event unit disk (replies.Heard answer) a told whole = record { answer = answer; is = refl; same = whole.0 }
-answered vid mode s event unit disk reply a told whole = absurd told
-
 abbrev IsReleasedReply : ToldAnswer → Type 0
 IsReleasedReply answers.Done = Unit {0}
 IsReleasedReply (answers.Stale have) = Unit {0}
@@ -184,7 +115,7 @@ record Leaves (origin : Origin) (lock : Lock) (broken : ℕ → Bool) (w u : Wor
   shut_same : u.state.manager.is_shut ≡ w.state.manager.is_shut
   planned : u.planned ≡ []
   broken_same : u.state.broken ≡ w.state.broken
-  opens : (p : Place) → IsOpenAt w.state.units p → IsOpenAt u.state.units p
+  opens : (p : Place) → IsMadeAt w.state.units p → IsMadeAt u.state.units p
   grows : (n : ℕ) → is_in n w.state.manager.heard.released ≡ true → is_in n u.state.manager.heard.released ≡ true
   pays : (t : Transfer) → IsIn t lock.transfers → IsJourneyOf origin.vid t j → (is_in t.index u.state.manager.heard.released ≡ true) ⊎ (broken t.old.disk ≡ true)
 
@@ -213,16 +144,12 @@ old_there ts t i = gives_any (λ x. ((x.index == t.index) && (x.old.epoch == t.o
     (and_both ((t.index == t.index) && (t.old.epoch == t.old.epoch)) (t.old.disk == t.old.disk)
     (and_both (t.index == t.index) (t.old.epoch == t.old.epoch) (equal_test t.index t.index refl) (equal_test t.old.epoch t.old.epoch refl)) (equal_test t.old.disk t.old.disk refl))
 
-same_units : (u v : Units) → v ≡ u → (p : Place) → IsOpenAt u p → IsOpenAt v p
-same_units u v e p h = subst (λ x. IsOpenAt x p) (sym e) h
+same_units : (u v : Units) → v ≡ u → (p : Place) → IsMadeAt u p → IsMadeAt v p
+same_units u v e p h = subst (λ x. IsMadeAt x p) (sym e) h
 
-shut_off : (test b : Bool) → b ≡ false → cond test false b ≡ false
-shut_off true b e = refl
-shut_off false b e = e
-
-released_units : (u v : Units) (q : Place) → v ≡ units_after q (Request.Release q) Effect.Wrote u → (p : Place) → IsOpenAt u p → IsOpenAt v p
+released_units : (u v : Units) (q : Place) → v ≡ units_after q (Request.Release q) Effect.Wrote u → (p : Place) → IsMadeAt u p → IsMadeAt v p
 released_units u v q e p h =
-    subst (λ x. IsOpenAt x p) (sym e) (record { made = h.made; unshut = shut_off (is_place p q) (u.is_shut p) h.unshut; settled = h.settled })
+    subst (λ x. IsMadeAt x p) (sym e) h
 
 -- a release that was heard: the index is among those released
 released_more : (total : ℕ) (lock : Lock) (m n : Manager) (t : Transfer) → IsIn t lock.transfers → m.lock ≡ Some lock
@@ -240,7 +167,7 @@ heard_leaves : (origin : Origin) (lock : Lock) (broken : ℕ → Bool) (w u : Wo
         released = cond (is_old_there (transfers_of w.state.manager.lock) (at_home x.index x.old)) (x.index ∷ w.state.manager.heard.released) w.state.manager.heard.released;
       };
     }
-    → u.planned ≡ [] → u.state.broken ≡ w.state.broken → ((p : Place) → IsOpenAt w.state.units p → IsOpenAt u.state.units p) → Leaves origin lock broken w u j
+    → u.planned ≡ [] → u.state.broken ≡ w.state.broken → ((p : Place) → IsMadeAt w.state.units p → IsMadeAt u.state.units p) → Leaves origin lock broken w u j
 heard_leaves origin lock broken w u j x e i of held manager planned broken_same opens =
     let more = released_more (shape_of origin).total lock w.state.manager u.state.manager x i held (ap (λ (m : Manager). m.heard.released) manager) in
     record {
@@ -294,17 +221,13 @@ release_goes origin task lock homes broken w u j left reply under h done calm =
     let x = found.0 in
     let p : Place = at_home x.index x.old in
     let at : place_at j.old.unit j.old.disk ≡ p = ap (λ n. place_at n j.old.disk) found.2.unit ∙ ap (λ d. place_at (record { vid = origin.vid; index = x.index; epoch = x.old.epoch }) d) found.2.disk in
-    let event = done.told.event ∙ ap (λ q. Event.Send (Request.Release q)) at in
     let older = subst (λ (hs : List Location). x.old.epoch < (home_at hs x.index).epoch) (sym h.homes_are) (under.older x found.1) in
-    let heard : IsHeard w u (Request.Release p) done.step.reply = send_heard (shape_of origin) w u (Request.Release p) done.step event h.unshut (under.below x found.1, older) h.unplanned done.leads in
-    let told = subst (λ r. Tells origin.vid w.state (reply_kept reply) r) heard.heard done.told.reply in
-    let whole = subst (λ r. IsWhole origin.mode w.state.puts (events.Send (requests.Release j.old.unit j.old.disk)) reply r) heard.heard done.whole in
-    let code : IsAnswered reply heard.answer = answered origin.vid origin.mode w.state events.Look j.old.unit j.old.disk reply heard.answer told whole in
-    let out = outcome (view_at w.state.broken w.state.units p) p heard.answer heard.effect
-    (λ unbroken. (h.olds x found.1 (ap (λ (b : ℕ → Bool). b x.old.disk) (sym h.broken_are) ∙ unbroken)).made) heard.sent.answers in
-    let both = by_answer origin lock broken w u j x code.answer heard.effect found.1 found.2 h.held h.broken_are (subst IsUntroubled code.is calm)
-    (subst (λ a. Outcome (view_at w.state.broken w.state.units p) a heard.effect) code.same out) (subst (λ a. Sent w u (Request.Release p) a heard.effect) code.same heard.sent) in
-    record { answer = code.answer; is = code.is; released = both.0; leaves = both.1 }
+    let heard : IsTold origin w u (requests.Release j.old.unit j.old.disk) (Request.Release p) reply =
+    is_told origin w u (requests.Release j.old.unit j.old.disk) (Request.Release p) reply (ap (λ q. Request.Release q) at) h.unshut (under.below x found.1, older) h.unplanned done in
+    let out = outcome (view_at w.state.broken w.state.units p) p (answer_of heard.answer) heard.effect
+    (λ unbroken. (h.olds x found.1 (ap (λ (b : ℕ → Bool). b x.old.disk) (sym h.broken_are) ∙ unbroken))) heard.leaves.answers in
+    let both = by_answer origin lock broken w u j x heard.answer heard.effect found.1 found.2 h.held h.broken_are (subst IsUntroubled heard.is calm) out heard.leaves in
+    record { answer = heard.answer; is = heard.is; released = both.0; leaves = both.1 }
 
 -- ---- the unlock
 
@@ -370,7 +293,7 @@ unlock_done origin task lock homes broken w u reply under h done calm =
 
 -- ---- from the swap to the end
 
-abbrev Ends : Result Stage TaskFault → Type 0
+abbrev pub Ends : Result Stage TaskFault → Type 0
 Ends result = (units : List Home) × (result ≡ Ok (stages.Done units))
 
 over_ends : (mode : Mode) (task : Task) (units : List Home) (parts : List Part) (result : Result Stage TaskFault) → IsRest (task_call mode task) (Next.Over (Ok (stages.Done units))) parts result → Ends result
@@ -386,7 +309,7 @@ next_release work disk left (answers.Stale have) h = (work, refl)
 next_release work disk left answers.Broken h = (with_broken disk work, refl)
 next_release work disk left answer h = absurd h
 
-finishes : (origin : Origin) (task : Task) (lock : Lock) (homes : List Location) (broken : ℕ → Bool) (work : Work) (left : List Journey) (parts : List Part) (w v : World) (result : Result Stage TaskFault) → IsUnder origin task lock homes broken
+pub finishes : (origin : Origin) (task : Task) (lock : Lock) (homes : List Location) (broken : ℕ → Bool) (work : Work) (left : List Journey) (parts : List Part) (w v : World) (result : Result Stage TaskFault) → IsUnder origin task lock homes broken
     → Standing origin lock homes broken w left → IsCalm parts → PartsLead origin w parts v → IsRest (task_call origin.mode task) (Next.Go (releasing work left)) parts result → Ends result
 finishes origin task lock homes broken work left [] w v result under h calm leads rest = absurd rest
 finishes origin task lock homes broken work left (Part.Beside trace ∷ parts) w v result under h calm leads rest = absurd calm

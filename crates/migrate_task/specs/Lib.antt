@@ -8,3 +8,4 @@ pub mod GatherParts
 pub mod StandIn
 pub mod Endings
 pub mod Completion
+pub mod CompletionExamples

@@ -1,6 +1,7 @@
 //! What holds of every call of a task.
 
-ghost use Rattle.migrate_task.specs.Completion.{SwappedTasksGetDone, TasksGetTheLock};
+ghost use Rattle.migrate_task.specs.Completion.{LockedTasksGetSwapped, SwappedTasksGetDone, TasksGetDone, TasksGetTheLock};
+ghost use Rattle.migrate_task.specs.CompletionExamples.{MadeVolumesCanGoOn};
 ghost use Rattle.migrate_task.specs.Endings.{DoneIsUnlocked, LastRepliesTell, RepliesEndCalls, UnlockedIsDone};
 
 /// A call answers that all is done only behind a swap of the units and an unlock of the volume, each of which was
@@ -32,4 +33,22 @@ pub fn swapped_tasks_get_done()
 /// A task gets the lock of a volume that is free for it, while nobody else steps and nothing fails.
 pub fn tasks_get_the_lock()
     ensures { TasksGetTheLock }
+{}
+
+/// A task that has its lock swaps its units in one call, also where destinations have to move to other disks, while
+/// nobody else steps, nothing fails, no chunk is full, and no more units are on broken disks than a lock can move.
+pub fn locked_tasks_get_swapped()
+    ensures { LockedTasksGetSwapped }
+{}
+
+/// A task that can have the lock of a volume, or has it, is done by one call, while nobody else steps, nothing fails, no
+/// chunk is full, and no more units are on broken disks than a lock can move.
+pub fn tasks_get_done()
+    ensures { TasksGetDone }
+{}
+
+/// A task can go on in a volume as made, also where two of its six units are on broken disks; and under its lock, where the
+/// destination's disk broke and the target has another.
+pub fn examples_hold()
+    ensures { MadeVolumesCanGoOn }
 {}

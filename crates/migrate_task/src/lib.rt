@@ -12,9 +12,10 @@
 //!
 //! What holds of every call stands in `laws`. A call answers that all is done exactly where its unlock was done
 //! (`done_is_unlocked`, `unlocked_is_done`), and the reply to its last event tells every other answer
-//! (`last_replies_tell`, `replies_end_calls`); what these say stands in `specs/Endings`. While nothing fails, a call gets
-//! the lock of a volume that is free for its task, and takes a task whose units are swapped to its end
-//! (`tasks_get_the_lock`, `swapped_tasks_get_done`, by `specs/Completion`).
+//! (`last_replies_tell`, `replies_end_calls`); what these say stands in `specs/Endings`. While nothing fails, one call
+//! takes a task to its end that can have the lock of its volume, or has it (`tasks_get_done`): it gets the lock
+//! (`tasks_get_the_lock`), swaps the units (`locked_tasks_get_swapped`), and gives up the old ones
+//! (`swapped_tasks_get_done`). What it needs for that stands in `specs/Completion`.
 #![tactic(auto)]
 
 mod advancing;
