@@ -1,8 +1,7 @@
 -- A volume of six units that stands in for a whole one in tests: as made, what it shows, and which answers it may give.
 use Rattle.std.specs.Prelude.{◌≡◌, ℕ, zero, suc, ◌+◌, ◌<◌, ◌≤◌, ◌==◌, true, false, List, [], ◌∷◌, length, None}
 use Rattle.std.specs.List.{range_with_len}
-use Rattle.std.proofs.Common.{inl, inr, refl, sym, ◌∙◌, ap, subst, lit<, lit≤, arith}
-use Rattle.unit_id.specs.Lists.{IsIn}
+use Rattle.std.proofs.Common.{refl, sym, ◌∙◌, ap, subst, lit<, lit≤, arith}
 use Rattle.unit_id.specs.Place.{Location}
 use Rattle.unit_id.specs.declared.homes.Home.{Home}
 use Rattle.code_mode.specs.declared.mode.Mode.TheVariants as modes
@@ -13,7 +12,7 @@ use Rattle.volume_world.specs.declared.event.Event.{Event}
 use Rattle.volume_world.specs.declared.reply.Reply.{Reply}
 use Rattle.volume_world.specs.declared.trace.Trace.{Trace}
 use Rattle.volume_world.specs.Trace.{trace_of}
-use Rattle.volume_world.specs.Way.{Origin, WayView, IsWay, IsFirst, shape_of}
+use Rattle.volume_world.specs.Way.{Origin, WayView, IsFirst, shape_of}
 use Rattle.volume_world.specs.Asking.{IsUnitOn}
 use Rattle.volume_world.specs.Replying.{AreHomes, ShowsMoves, MayReply}
 use Rattle.volume_world.specs.Course.{is_fault}
@@ -85,18 +84,4 @@ stand_first = record {
   };
   made = λ p e. absurd (cc);
   state = refl;
-}
-
-below : (n from count : ℕ) → IsIn n (range_with_len from count) → n < from + count
-below n from zero h = absurd h
-below n from (suc count) (inl e) = omega arith
-below n from (suc count) (inr h) = let less = below n (from + 1) count h in omega arith
-
-pub stand_way : (entries : List Trace) → IsWay (stand_view entries)
-stand_way entries = record {
-  first = stand_first;
-  somewhere = λ e. absurd (cc);
-  led = λ e w at. absurd at;
-  own = record { below = λ n i. let less = below n 0 (length entries) i in omega arith };
-  alone = λ e. refl;
 }

@@ -313,6 +313,7 @@ pub fn get<P: Port>(
     ensures gets { Gets (P.seen port.old) (P.seen port.new) bid size result }
     ensures shape { shape coder.new ≡ shape coder.old }
 {
+    port.is_way();
     let mode = port.mode();
     let wanted = Wanted { mode, bid, size };
     let mut versions = Versions::none();

@@ -142,6 +142,7 @@ fn send_shard<P: Port>(
         blob_size: blob.len() as u32,
         bytes,
     };
+    port.is_way();
     match port.step(Event::Send { request }) {
         Ok(reply) => sent(reply),
         Err(fault) => Err(PutFault::from(fault)),

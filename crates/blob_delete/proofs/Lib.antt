@@ -3,3 +3,4 @@ mod SweepCommits
 mod SweepClaims
 mod SweepLemmas
 mod StandInSteps
+mod StandInWay

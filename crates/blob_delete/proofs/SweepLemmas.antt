@@ -290,12 +290,16 @@ freeing_counted bid a b marked freed left done h = record { goes = λ total. sub
 
 -- ---- whole sweeps
 
+-- what a sweep asks from its beginning on, and what it comes to
+abbrev IsSwept : ℕ → WayView → WayView → Result Swept DeleteFault → Type 0
+IsSwept bid old new result = SweepsOn bid old new (Next.Go SweepStage.Looking) result (λ swept. Next.Over (Ok swept))
+
 -- a part that fails, behind what went before, ends the sweep
-pub sweep_fails : {T : Type 0} (old new : WayView) (bid : ℕ) (result : Result Swept DeleteFault) (fault : DeleteFault) (then : T → SweepNext) → IsWay new → result ≡ Err fault
-    → SweepsOn {T = T} bid old new (Next.Go SweepStage.Looking) (Err fault) then → Sweeps old new bid result
-sweep_fails {T} old new bid result fault then its e h =
-    subst (λ r. Sweeps old new bid r) (sym e)
-    (sweeps_whole old new bid (Err fault) its (sweeps_failed {T = T} {U = Swept} bid old new (Next.Go SweepStage.Looking) fault then (λ swept. Next.Over (Ok swept)) h))
+pub sweep_fails : {T : Type 0} (old new : WayView) (bid : ℕ) (result : Result Swept DeleteFault) (fault : DeleteFault) (then : T → SweepNext) → result ≡ Err fault
+    → SweepsOn {T = T} bid old new (Next.Go SweepStage.Looking) (Err fault) then → IsSwept bid old new result
+sweep_fails {T} old new bid result fault then e h =
+    subst (λ r. IsSwept bid old new r) (sym e)
+    (sweeps_failed {T = T} {U = Swept} bid old new (Next.Go SweepStage.Looking) fault then (λ swept. Next.Over (Ok swept)) h)
 
 -- once the look has shown these units
 abbrev pub shown : List Home → SweepNext
@@ -317,17 +321,16 @@ committed_so_far bid a d e total marked made is h k =
     proceeds_on (sweep_call bid) a d e (Next.Go SweepStage.Looking) at (freeing total 0 marked) h (subst (λ (m : Decided). Proceeding bid d e at (decided_on total marked m)) is k)
 
 -- .. to too few marks
-pub sweeps_waiting : (bid : ℕ) (a d e : WayView) (total marks : ℕ) (marked : List Home) (made : Decided) → made ≡ decided.Waits marks → IsWay e
+pub sweeps_waiting : (bid : ℕ) (a d e : WayView) (total marks : ℕ) (marked : List Home) (made : Decided) → made ≡ decided.Waits marks
     → Proceeding bid a d (Next.Go SweepStage.Looking) (Next.Go (SweepStage.Committing total marked))
-    → Proceeding bid d e (Next.Go (SweepStage.Committing total marked)) (decided_on total marked made) → Sweeps a e bid (Ok (swept.Waits marks))
-sweeps_waiting bid a d e total marks marked made is its h k =
+    → Proceeding bid d e (Next.Go (SweepStage.Committing total marked)) (decided_on total marked made) → IsSwept bid a e (Ok (swept.Waits marks))
+sweeps_waiting bid a d e total marks marked made is h k =
     let at = Next.Go (SweepStage.Committing total marked) in
-    sweeps_whole a e bid (Ok (swept.Waits marks)) its
     (proceeds_on (sweep_call bid) a d e (Next.Go SweepStage.Looking) at (Next.Over (Ok (swept.Waits marks))) h (subst (λ (m : Decided). Proceeding bid d e at (decided_on total marked m)) is k))
 
 -- .. to the end
-pub sweeps_over : (bid : ℕ) (a f : WayView) (total freed count : ℕ) (outcome : Swept) → IsWay f → count ≡ total → Next.Over (Ok outcome) ≡ freeing count freed []
-    → Proceeding bid a f (Next.Go SweepStage.Looking) (freeing total freed []) → Sweeps a f bid (Ok outcome)
-sweeps_over bid a f total freed count outcome its same is h =
+pub sweeps_over : (bid : ℕ) (a f : WayView) (total freed count : ℕ) (outcome : Swept) → count ≡ total → Next.Over (Ok outcome) ≡ freeing count freed []
+    → Proceeding bid a f (Next.Go SweepStage.Looking) (freeing total freed []) → IsSwept bid a f (Ok outcome)
+sweeps_over bid a f total freed count outcome same is h =
     let given : Next.Over (Ok outcome) ≡ freeing total freed [] = is ∙ ap (λ (n : ℕ). freeing n freed []) same in
-    sweeps_whole a f bid (Ok outcome) its (subst (λ (to : SweepNext). Proceeding bid a f (Next.Go SweepStage.Looking) to) (sym given) h)
+    subst (λ (to : SweepNext). Proceeding bid a f (Next.Go SweepStage.Looking) to) (sym given) h

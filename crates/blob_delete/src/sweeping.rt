@@ -221,6 +221,22 @@ fn outcome(freed: usize, total: usize) -> Swept
     }
 }
 
+/// What a sweep asks, and what it comes to.
+fn sweep_units<P: Port>(port: &mut P, bid: u64) -> Result<Swept, DeleteFault>
+    requires { IsBid bid }
+    ensures { SweepsOn bid (P.seen port.old) (P.seen port.new) (Next.Go SweepStage.Looking) result (λ swept. Next.Over (Ok swept)) }
+{
+    let units = look(port)?;
+    let marked = mark_units(port, bid, &units)?;
+    match commit(port, bid)? {
+        Decided::Committed => {
+            let freed = free_units(port, bid, &marked)?;
+            Ok(outcome(freed, units.len()))
+        }
+        Decided::Waits { marks } => Ok(Swept::Waits { marks }),
+    }
+}
+
 /// Sweeps a blob whose deletion was asked for. It looks at the volume, marks the blob at each unit on an unbroken disk in
 /// order of index, commits the deletion, and has each unit that was heard to have the mark let the blob's shard go. Blob
 /// numbers are 1 to 2^62. It answers `Freed` exactly where every unit of the volume let its shard go in this call, and
@@ -235,13 +251,7 @@ pub fn sweep<P: Port>(_alloc: Global, port: &mut P, bid: u64) -> Result<Swept, D
     requires { IsBid bid }
     ensures { Sweeps (P.seen port.old) (P.seen port.new) bid result }
 {
-    let units = look(port)?;
-    let marked = mark_units(port, bid, &units)?;
-    match commit(port, bid)? {
-        Decided::Committed => {
-            let freed = free_units(port, bid, &marked)?;
-            Ok(outcome(freed, units.len()))
-        }
-        Decided::Waits { marks } => Ok(Swept::Waits { marks }),
-    }
+    let swept = sweep_units(port, bid);
+    port.is_way();
+    swept
 }

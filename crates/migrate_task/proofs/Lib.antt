@@ -8,6 +8,7 @@ mod MergeLemmas
 mod ToldLemmas
 mod GatherLemmas
 mod StandInSteps
+mod StandInWay
 mod HeardSends
 mod SwappedCalls
 mod LockedCalls

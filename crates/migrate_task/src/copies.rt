@@ -43,6 +43,7 @@ fn copy<P: Port>(
         bid: errand.bid,
         size: row.size,
     });
+    port.is_way();
     write(port, errand, row.size, row.bytes)
 }
 

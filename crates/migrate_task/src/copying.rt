@@ -94,7 +94,9 @@ pub(crate) fn read<P: Port>(port: &mut P, bid: u64, home: &Home) -> Result<Reply
     let unit = home.unit;
     let disk = home.disk;
     let request = Request::Read { unit, disk, bid };
+    port.is_way();
     let reply = step(port, Event::Send { request })?;
+    port.is_way();
     Ok(reply)
 }
 

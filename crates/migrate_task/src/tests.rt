@@ -5,7 +5,7 @@ ghost use Rattle.unit_id.specs.declared.request.Request.{Request as RequestView}
 ghost use Rattle.unit_id.specs.declared.request.Request.TheVariants as requests;
 ghost use Rattle.volume_world.specs.Trace.{request_kept};
 ghost use Rattle.migrate_task.specs.TaskParts.{IsTaskOf};
-ghost use Rattle.migrate_task.specs.StandIn.{IsAnswer, stand_home, stand_moves, stand_origin, stand_seen, stand_units, stand_view, stand_way};
+ghost use Rattle.migrate_task.specs.StandIn.{IsAnswer, stand_home, stand_moves, stand_origin, stand_seen, stand_units, stand_view};
 
 use crate::{Stage, TaskFault, Why, advance};
 use code_mode::Mode;
@@ -422,8 +422,6 @@ impl Units {
 impl Port for StandIn {
     ghost seen = { λ port. stand_view port.entries.items };
 
-    ghost is_way = { λ port. stand_way port.entries.items };
-
     fn step(&mut self, event: Event) -> Result<Reply, StepFault> {
         if self.entries.len() >= LONGEST {
             return Err(StepFault::HistoryFull);
@@ -439,6 +437,10 @@ impl Port for StandIn {
 
     fn vid(&self) -> u32 {
         1
+    }
+
+    fn is_way(&self) {
+        let _ = &self.entries;
     }
 }
 

@@ -11,7 +11,7 @@ use Rattle.shard_record.specs.Rows.{row_at}
 use Rattle.shard_record.specs.Rows as rows
 use Rattle.code_mode.specs.VolumeShape.{VolumeShape}
 use Rattle.blob_node.specs.Units.{with_at, with_unit}
-use Rattle.blob_node.specs.Holding.{Written, nothing_written}
+use Rattle.blob_node.specs.Holding.{nothing_written}
 use Rattle.blob_node.specs.Station.{HasNone}
 use Rattle.blob_node.proofs.Standing.{with_same}
 use Rattle.volume_entry.specs.Manager.{AreFirstHomes, current, fresh_manager}
@@ -25,16 +25,13 @@ use Rattle.volume_world.specs.PutBook.{Books}
 use Rattle.volume_world.specs.Stations.{AllStand}
 use Rattle.volume_world.specs.Way.{IsFirst}
 use Rattle.volume_world.specs.World.{WorldOver, Stands}
+use Rattle.volume_world.specs.WorldMaking.{none_written}
 use Rattle.volume_world.specs.declared.late.LateItem.{LateItem}
 use Rattle.volume_world.proofs.Mailbags.{none_has}
 
 -- the first state of a volume with these homes, and with these of its units made
 abbrev pub first_world : List Location → (Place → Bool) → World
 first_world homes is_made = record { state = fresh homes is_made; planned = []; late = [] }
-
--- nothing was written to any unit
-abbrev pub none_written : Place → Written
-none_written place = nothing_written
 
 no_live : (bid blob_size : ℕ) (bytes : List ℕ) → row_at [] bid ≡ Some (rows.Live blob_size bytes) → ⊥
 no_live bid blob_size bytes row = let none : row_at [] bid ≡ None = get-empty nat_cmp bid in cc (none, row)

@@ -20,7 +20,8 @@ use Rattle.volume_world.specs.Move.{IsSendable, puts_hear}
 use Rattle.volume_world.specs.Origins.{faults_of, origin_of}
 use Rattle.volume_world.specs.Run.{World, without_next}
 use Rattle.volume_world.specs.Sending.{IsHeardAtOnce, IsUnheard, time_behind, items_of, EndsSend, MaySend, IsReady, ServesHeard, HearsBy}
-use Rattle.volume_world.specs.Serving.{AreNoted, settles_of, once_handled, once_heard, IsAsked, AnswersIn, Serves, CountsFault, IsHeardBy}
+use Rattle.volume_world.specs.History.{AreNoted}
+use Rattle.volume_world.specs.Serving.{settles_of, once_handled, once_heard, IsAsked, AnswersIn, Serves, CountsFault, IsHeardBy}
 use Rattle.volume_world.specs.State.{State}
 use Rattle.volume_world.specs.Stepping.{IsSound, FitsLate, Done, NotDone}
 use Rattle.volume_world.specs.Trace.{request_kept, reply_kept}

@@ -16,16 +16,16 @@ use Rattle.disk_base.specs.Disk.{FileView}
 use Rattle.disk_base.specs.Shelves.{ShelfView}
 use Rattle.disk_base.specs.declared.fault.NoMemory.{NoMemory}
 use Rattle.blob_node.specs.Units.{Units, with_at, with_unit}
-use Rattle.blob_node.specs.UnitAnswer.{Effect, Answers, view_at, units_after}
+use Rattle.blob_node.specs.UnitAnswer.{Effect, Answers, UnitView, view_at, units_after}
 use Rattle.blob_node.specs.Holding.{written_after, nothing_written}
 use Rattle.blob_node.specs.Station.{StationOver, HasNone}
 use Rattle.blob_node.proofs.Standing.{with_same}
 use Rattle.volume_entry.specs.Manager.{current, home_at}
 use Rattle.volume_world.specs.State.{fresh}
-use Rattle.volume_world.specs.Stations.{StationsOver, HasDisk, AllStand, AllOutlast, StationsCall, Handled}
+use Rattle.volume_world.specs.Stations.{StationsOver, HasDisk, AllStand, AllOutlast, AnswersBy, StationsCall, Handled, Handles}
 use Rattle.volume_world.specs.Stations as all
 use Rattle.volume_world.specs.Origins.{is_of_homes}
-use Rattle.volume_world.specs.WorldMaking.{AreHomesOf, CountsMaking, CountsRefusal, FitsHomes, HasUnit, KeepsStations, MakesFirst, MakesUnit, MakesUnits, locations, location_of, none_written, unit_made}
+use Rattle.volume_world.specs.WorldMaking.{AreHomesOf, CountsMaking, CountsRefusal, FitsHomes, HasUnit, HaveNone, IsFree, KeepsStations, MakesFirst, MakesUnit, MakesUnits, locations, location_of, none_written, unit_made}
 use Rattle.volume_world.specs.declared.world_fault.WorldFault.{WorldFault}
 use Rattle.volume_world.specs.declared.world_fault.WorldFault.TheVariants.{Fault}
 use Rattle.volume_world.proofs.FirstWorlds.{none_made, unit_more}
@@ -91,20 +91,40 @@ module _ (homes : List Location) (count : ℕ) where
   pub more_of_homes : with_at (current homes count) true (is_of_homes count homes) ≡ is_of_homes (count + 1) homes
   more_of_homes = λ i q. more_at q i
 
--- at first none is
-none_less : (index : ℕ) → nat_lt index 0 ≡ false
-none_less index = go (nat_lt index 0) refl where
-  go : (test : Bool) → nat_lt index 0 ≡ test → test ≡ false
-  go true e = let less = ltb-true index 0 e in absurd (omega (arith, less))
+not_less : (index count : ℕ) → count ≤ index → nat_lt index count ≡ false
+not_less index count most = go (nat_lt index count) refl where
+  go : (test : Bool) → nat_lt index count ≡ test → test ≡ false
+  go true e = let less = ltb-true index count e in absurd (omega (arith, less, most))
   go false e = refl
 
+-- none is of the indexes behind
+none_behind : (homes : List Location) (count : ℕ) (place : Place) → count ≤ place.index → is_of_homes count homes place ≡ false
+none_behind homes count place most = ap (λ b. b && is_place place (current homes place.index)) (not_less place.index count most)
+
+-- at first none is
 none_of_homes : (homes : List Location) → is_of_homes 0 homes ≡ (λ place. false)
-none_of_homes homes = λ i place. ap (λ b. b && is_place place (current homes place.index)) (none_less place.index) i
+none_of_homes homes = λ i place. none_behind homes 0 place (omega arith) i
 
 pub none_at_first : (homes : List Location) (disk : ℕ) → HasNone disk (fresh homes (is_of_homes 0 homes)).units
 none_at_first homes disk = subst (λ (made : Place → Bool). HasNone disk (fresh homes made).units) (sym (none_of_homes homes)) (none_made homes disk)
 
 -- ---- one unit
+
+-- the disk of a create works
+never_broken : (view : UnitView) (place : Place) (effect : Effect) → view.is_broken ≡ false → Answers view (Request.Create place) Answer.Broken effect → ⊥
+never_broken view place Effect.Nothing works is = contrary view.is_broken is works
+never_broken view place _ works is = is.1
+
+-- .. and no unit of the index was made there
+never_stale : (view : UnitView) (place : Place) (have : ℕ) (effect : Effect) → ((epoch : ℕ) → view.was_made epoch ≡ false)
+    → Answers view (Request.Create place) (Answer.Stale have) effect → ⊥
+never_stale view place have Effect.Nothing unmade is = contrary (view.was_made have) is.made (unmade have)
+never_stale view place have _ unmade is = is.1
+
+never_already : (view : UnitView) (place : Place) (effect : Effect) → ((epoch : ℕ) → view.was_made epoch ≡ false)
+    → Answers view (Request.Create place) Answer.Already effect → ⊥
+never_already view place Effect.Nothing unmade is = contrary (view.was_made view.epoch) is.1 (unmade view.epoch)
+never_already view place _ unmade is = is.1
 
 module _ {H F : Type 0} (shelf_seen : H → ShelfView F) (seen : F → FileView) where
   counts_made : (old new : List (StationOver H F)) (result : Result answered.Answer NoMemory) → all.CountsFault shelf_seen seen old new result
@@ -121,19 +141,36 @@ module _ {H F : Type 0} (shelf_seen : H → ShelfView F) (seen : F → FileView)
     done_makes broken Effect.Made answers stand = subst (λ written. AllStand shelf_seen seen new written (with_unit place units)) (with_same place none_written) stand
     done_makes broken _ answers stand = absurd answers.1
 
-  unit_by : (home : Home) (old new : StationsOver H F) (found : Option Bool) (result : Result answered.Answer NoMemory)
-      → Handled shelf_seen seen (requests.Create home.unit home.disk) found result old.stations new.stations
-      → HasUnit shelf_seen seen (place_at home.unit home.disk) old new (unit_made result)
-  unit_by home old new None (Ok answers.Done) handled = λ units open_ stand.
-      let by = (handled none_written units stand).handles in
-      done_makes (place_at home.unit home.disk) new.stations units (all.is_broken_on old.stations) by.effect by.answers by.stand
-  unit_by home old new (Some found) (Ok answers.Done) handled = λ units open_ stand.
-      absurd (contrary (units.is_shut (place_at home.unit home.disk)) ((handled none_written units stand).was_shut refl) open_)
-  unit_by home old new found (Ok answers.Fault) handled = tt
-  unit_by home old new found (Ok (answers.Damaged kept computed)) handled = tt
-  unit_by home old new found (Ok (answers.Spoiled place)) handled = tt
-  unit_by home old new found (Ok _) handled = tt
-  unit_by home old new found (Err _) handled = tt
+    -- a create that gives a fault makes none
+    fault_leaves : (broken : ℕ → Bool) (effect : Effect) → Answers (view_at broken units place) (Request.Create place) Answer.Fault effect
+        → AllStand shelf_seen seen new (with_at place (written_after effect None nothing_written) none_written) (units_after place (Request.Create place) effect units)
+        → AllStand shelf_seen seen new none_written units
+    fault_leaves broken Effect.Nothing answers stand = subst (λ written. AllStand shelf_seen seen new written units) (with_same place none_written) stand
+    fault_leaves broken _ answers stand = absurd answers.1
+
+  module _ (home : Home) (old new : StationsOver H F) (units : Units) (free : IsFree shelf_seen seen old units (place_at home.unit home.disk)) where
+    abbrev place : Place
+    place = place_at home.unit home.disk
+
+    abbrev view : UnitView
+    view = view_at (all.is_broken_on old.stations) units place
+
+    -- no shut chunk is started, and the create is answered
+    unit_by_answer : (answer : answered.Answer) → AnswersBy shelf_seen seen (requests.Create home.unit home.disk) none_written units None answer old.stations new.stations
+        → HasUnit shelf_seen seen place units new (unit_made (Ok answer))
+    unit_by_answer answers.Done by = done_makes place new.stations units (all.is_broken_on old.stations) by.effect by.answers by.stand
+    unit_by_answer answers.Fault by = (tt, fault_leaves place new.stations units (all.is_broken_on old.stations) by.effect by.answers by.stand)
+    unit_by_answer answers.Broken by = absurd (never_broken view place by.effect free.unbroken by.answers)
+    unit_by_answer (answers.Stale have) by = absurd (never_stale view place have by.effect free.unmade by.answers)
+    unit_by_answer answers.Already by = absurd (never_already view place by.effect free.unmade by.answers)
+    unit_by_answer _ by = absurd by.answers.1
+
+    unit_by : (found : Option Bool) (result : Result answered.Answer NoMemory)
+        → Handles shelf_seen seen (requests.Create home.unit home.disk) none_written units found result old.stations new.stations
+        → HasUnit shelf_seen seen place units new (unit_made result)
+    unit_by (Some found) result by = absurd (contrary (units.is_shut place) (by.was_shut refl) free.open_)
+    unit_by None (Ok answer) by = unit_by_answer answer by.handles
+    unit_by None (Err _) by = (tt, subst (λ written. AllStand shelf_seen seen new.stations written units) (with_same place none_written) by.handles)
 
   pub one_made : (home : Home) (old new : StationsOver H F) (found : Option Bool) (answer : Result answered.Answer NoMemory) (result : Result (Unit {0}) WorldFault) → result ≡ unit_made answer
       → StationsCall shelf_seen seen old new answer → Handled shelf_seen seen (requests.Create home.unit home.disk) found answer old.stations new.stations
@@ -141,7 +178,7 @@ module _ {H F : Type 0} (shelf_seen : H → ShelfView F) (seen : F → FileView)
   one_made home old new found answer result is call told lasts = subst (MakesUnit shelf_seen seen home old new) (sym is) (record {
     keeps = record { vid = call.vid; count = call.count; broken = call.broken; lasts = lasts };
     counts = counts_made old.stations new.stations answer call.counts;
-    made = unit_by home old new found answer told;
+    made = λ units free. unit_by home old new units free found answer (told none_written units free.stand);
   })
 
   -- ---- all units
@@ -176,7 +213,7 @@ module _ {H F : Type 0} (shelf_seen : H → ShelfView F) (seen : F → FileView)
   first_none homes stations = record {
     keeps = record { vid = refl; count = refl; broken = λ disk. refl; lasts = all_last shelf_seen seen stations.stations };
     counts = omega arith;
-    made = λ have. have;
+    made = λ have. have.made;
   }
 
   module _ (homes : List Home) (count : ℕ) (home : Home) (first mid : StationsOver H F) (below : count < length homes) (at : home ≡ get_or homes count home) (fits : FitsHomes homes first)
@@ -193,6 +230,23 @@ module _ {H F : Type 0} (shelf_seen : H → ShelfView F) (seen : F → FileView)
         let same = makes.keeps.count in
         record { first = omega (arith, low, disk); last = omega (arith, high, disk, same) }
 
+    abbrev units : Units
+    units = (fresh (locations homes) (is_of_homes count (locations homes))).units
+
+    index_is : home.unit.index ≡ count
+    index_is = (own_at first.vid 0 count homes home fits.own below at).1 ∙ omega arith
+
+    -- nothing stands where it is to be made
+    next_free : HaveNone shelf_seen seen homes first.stations → IsFree shelf_seen seen mid units (place_at home.unit home.disk)
+    next_free have = record {
+      stand = makes.made have;
+      unbroken = makes.keeps.broken home.disk ∙ have.unbroken home.disk;
+      unmade = λ epoch.
+          let index = index_is in
+          none_behind (locations homes) count (record { index = home.unit.index; epoch = epoch; disk = home.disk }) (omega (arith, index));
+      open_ = refl;
+    }
+
     -- one unit more
     pub next_made : (new : StationsOver H F) → MakesUnit shelf_seen seen home mid new (Ok tt) → MakesFirst shelf_seen seen homes (count + 1) first new
     next_made new unit = record {
@@ -200,9 +254,8 @@ module _ {H F : Type 0} (shelf_seen : H → ShelfView F) (seen : F → FileView)
       counts = let before = makes.counts in let now = unit.counts in omega (arith, before, now);
       made = λ have.
           let locs = locations homes in
-          let units = (fresh locs (is_of_homes count locs)).units in
-          let place : place_at home.unit home.disk ≡ current locs count = place_is homes count home below at ((own_at first.vid 0 count homes home fits.own below at).1 ∙ omega arith) in
-          let stand : AllStand shelf_seen seen new.stations none_written (with_unit (place_at home.unit home.disk) units) = unit.made units refl (makes.made have) in
+          let place : place_at home.unit home.disk ≡ current locs count = place_is homes count home below at index_is in
+          let stand : AllStand shelf_seen seen new.stations none_written (with_unit (place_at home.unit home.disk) units) = unit.made units (next_free have) in
           subst (λ (made : Place → Bool). AllStand shelf_seen seen new.stations none_written (fresh locs made).units) (more_of_homes locs count)
           (subst (AllStand shelf_seen seen new.stations none_written) (unit_more locs (is_of_homes count locs) (current locs count))
           (subst (λ (p : Place). AllStand shelf_seen seen new.stations none_written (with_unit p units)) place stand));
@@ -215,7 +268,11 @@ module _ {H F : Type 0} (shelf_seen : H → ShelfView F) (seen : F → FileView)
     -- or a refusal
     pub next_fails : (new : StationsOver H F) (fault : WorldFault) (result : Result (Unit {0}) WorldFault) → result ≡ Err fault → MakesUnit shelf_seen seen home mid new (Err fault)
         → MakesUnits shelf_seen seen homes first new result
-    next_fails new fault result is unit = subst (MakesUnits shelf_seen seen homes first new) (sym is) (
-      keeps_then first mid new makes.keeps unit.keeps,
-      refusal_behind (all.faults_of shelf_seen seen first.stations) (all.faults_of shelf_seen seen mid.stations) (all.faults_of shelf_seen seen new.stations) fault makes.counts unit.counts,
-    )
+    next_fails new fault result is unit = subst (MakesUnits shelf_seen seen homes first new) (sym is) (record {
+      keeps = keeps_then first mid new makes.keeps unit.keeps;
+      counts =
+          refusal_behind (all.faults_of shelf_seen seen first.stations) (all.faults_of shelf_seen seen mid.stations) (all.faults_of shelf_seen seen new.stations) fault makes.counts
+          unit.counts;
+      plain = λ have. (unit.made units (next_free have)).0;
+      made = λ have. record { count = count; few = omega (arith, below); made = (unit.made units (next_free have)).1 };
+    })

@@ -20,7 +20,8 @@ use Rattle.volume_world.specs.Told.{MayBe, event_told}
 use Rattle.volume_world.specs.Trace.{event_kept, trace_of}
 use Rattle.volume_world.specs.World.{WorldOver, Stands}
 use Rattle.volume_world.specs.WorldSteps.{LeadsOn, Gives}
-use Rattle.volume_world.specs.Opening.{NeedsLog, settle_entry}
+use Rattle.volume_world.specs.History.{settle_entry}
+use Rattle.volume_world.specs.Opening.{NeedsLog}
 use Rattle.volume_world.specs.ManagerReplies.{start_refusal}
 use Rattle.volume_world.specs.declared.event.Event.{Event}
 use Rattle.volume_world.specs.declared.event.Event.TheVariants as events
@@ -46,7 +47,7 @@ start_settles s false shut doubtful = (shut, refl)
 -- a settle of the manager's log
 pub settle_may_be : (vid : ℕ) (shape : VolumeShape) (w : World) (is_found : Bool) → w.state.manager.is_shut ≡ true
     → (is_found ≡ true → is_some w.state.manager.doubt ≡ true)
-    → MayBe vid shape w (settle_entry is_found) (with_manager (restarted is_found w.state.manager) w)
+    → MayBe vid shape w (settle_entry 0 is_found) (with_manager (restarted is_found w.state.manager) w)
 settle_may_be vid shape w is_found shut doubtful =
     entry_of vid shape w (kept_event.Settle 0 is_found) kept_reply.Done ToldReply.Done (with_manager (restarted is_found w.state.manager) w)
     (refl, (inl (refl, (record (w.state) { manager = restarted is_found w.state.manager }, start_settles w.state is_found shut doubtful, refl)), refl)) tt
@@ -77,7 +78,7 @@ module _ {H F : Type 0} (shelf_seen : H → ShelfView F) (seen : F → FileView)
 
     -- it was shut: the history has a settle
     pub start_settled : (is_found : Bool) → w.state.manager.is_shut ≡ true → entries.StartsTo seen w.state.manager new.entry (Ok is_found)
-        → LeadsOn shelf_seen seen old w (settle_entry is_found) new
+        → LeadsOn shelf_seen seen old w (settle_entry 0 is_found) new
     start_settled is_found shut h = record {
       then_ = with_manager (restarted is_found w.state.manager) w;
       may_be = settle_may_be old.vid (shape_of old.shape) w is_found shut h.0;
@@ -116,7 +117,7 @@ module _ {H F : Type 0} (shelf_seen : H → ShelfView F) (seen : F → FileView)
 
     -- it was shut: a settle stands before it
     pub restart_settled : (is_found : Bool) → w.state.manager.is_shut ≡ true → entries.StartsTo seen w.state.manager new.entry (Ok is_found)
-        → (u : World) × MayBe old.vid (shape_of old.shape) w (settle_entry is_found) u × LeadsOn shelf_seen seen old u (trace_of events.RestartManager replies.Done) new
+        → (u : World) × MayBe old.vid (shape_of old.shape) w (settle_entry 0 is_found) u × LeadsOn shelf_seen seen old u (trace_of events.RestartManager replies.Done) new
     restart_settled is_found shut h =
         let u : World = with_manager (restarted is_found w.state.manager) w in (
           u,

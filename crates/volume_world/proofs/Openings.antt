@@ -14,7 +14,7 @@ use Rattle.volume_world.specs.State.{Puts}
 use Rattle.volume_world.specs.Run.{World}
 use Rattle.volume_world.specs.Trace.{event_kept, trace_of}
 use Rattle.volume_world.specs.Told.{MayBe, event_told}
-use Rattle.volume_world.specs.History.{KeptHistory, IsNoted}
+use Rattle.volume_world.specs.History.{KeptHistory, IsNoted, AreNoted, settle_entry}
 use Rattle.volume_world.specs.ManagerReplies.{IsStartFault, start_refusal}
 use Rattle.volume_world.specs.Way.{Origin}
 use Rattle.volume_world.specs.Way as way
@@ -24,7 +24,7 @@ use Rattle.volume_world.specs.Origins.{faults_of, origin_of}
 use Rattle.volume_world.specs.World.{WorldOver, Stands}
 use Rattle.volume_world.specs.WorldSteps.{LeadsOn}
 use Rattle.volume_world.specs.Stepping.{IsShort, IsSound, IsAt, Passes, HasRoom, Done, NotDone, Takes}
-use Rattle.volume_world.specs.Opening.{NeedsLog, AreNoted, NotesReply, settle_entry, restart_parts, StartsEntry, FailsToStart, IsOpened, StartsLog, Opens}
+use Rattle.volume_world.specs.Opening.{NeedsLog, NotesReply, restart_parts, StartsEntry, FailsToStart, IsOpened, StartsLog, Opens}
 use Rattle.volume_world.specs.declared.event.Event.{Event}
 use Rattle.volume_world.specs.declared.event.Event.TheVariants as events
 use Rattle.volume_world.specs.declared.reply.Reply.{Reply}
@@ -156,14 +156,14 @@ module _ {H F : Type 0} (shelf_seen : H → ShelfView F) (seen : F → FileView)
           (in_time new.entry.book.log.end (length new.history.entries) starts.last) sound
 
       -- it was shut
-      pub opened_now : old.entry.book.log.end ≡ None → IsNoted (settle_entry kept) old.history new.history → IsOpened shelf_seen seen old new
+      pub opened_now : old.entry.book.log.end ≡ None → IsNoted (settle_entry 0 kept) old.history new.history → IsOpened shelf_seen seen old new
       opened_now shut noted =
-          let more = noted_more (settle_entry kept) old.history new.history noted in
+          let more = noted_more (settle_entry 0 kept) old.history new.history noted in
           record {
-            settles = Part.Settling (settle_entry kept) ∷ [];
+            settles = Part.Settling (settle_entry 0 kept) ∷ [];
             settling = (tt, tt);
             few = omega arith;
-            passes = passes_settling shelf_seen seen (settle_entry kept) old new tt same sound_then noted
+            passes = passes_settling shelf_seen seen (settle_entry 0 kept) old new tt same sound_then noted
                 (λ w is apart. (
                   start_settled shelf_seen seen old new w is.stands only starts.call.broken kept (shut_at shut w is) (starts.told w.state.manager is.stands.manager),
                   short_on (Ok kept) starts more w is,
@@ -186,7 +186,7 @@ module _ {H F : Type 0} (shelf_seen : H → ShelfView F) (seen : F → FileView)
       restarted_shut : old.entry.book.log.end ≡ None → AreNoted (restart_parts true kept) old.history new.history
           → Done shelf_seen seen 1 old new events.RestartManager replies.Done
       restarted_shut shut noted = record {
-        settles = Part.Settling (settle_entry kept) ∷ [];
+        settles = Part.Settling (settle_entry 0 kept) ∷ [];
         settling = (tt, tt);
         few = omega arith;
         fits = tt;
@@ -203,7 +203,7 @@ module _ {H F : Type 0} (shelf_seen : H → ShelfView F) (seen : F → FileView)
           count = same.count;
           faults = let more = same.count in omega arith;
           leads = λ w is apart carries. restarted_led shut
-              (two_more (Part.Settling (settle_entry kept)) (Part.Asking events.RestartManager replies.Done) old.history new.history noted) w is;
+              (two_more (Part.Settling (settle_entry 0 kept)) (Part.Asking events.RestartManager replies.Done) old.history new.history noted) w is;
         };
       }
 
@@ -318,10 +318,10 @@ module _ {H F : Type 0} (shelf_seen : H → ShelfView F) (seen : F → FileView)
     history_now : mid.history ≡ old.history
     history_now = ap (λ (world : WorldOver H F). world.history) only
 
-    pub settled_now : is_some old.entry.book.log.end ≡ false → IsNoted (settle_entry kept) mid.history new.history → IsOpened shelf_seen seen old new
+    pub settled_now : is_some old.entry.book.log.end ≡ false → IsNoted (settle_entry 0 kept) mid.history new.history → IsOpened shelf_seen seen old new
     settled_now shut noted =
         opened_now old new sound only_now kept starts_now (none_at old.entry.book.log.end shut)
-        (subst (λ history. IsNoted (settle_entry kept) history new.history) history_now noted)
+        (subst (λ history. IsNoted (settle_entry 0 kept) history new.history) history_now noted)
 
     pub restarted_then : (was_shut : Bool) → was_shut ≡ is_none old.entry.book.log.end → AreNoted (restart_parts was_shut kept) mid.history new.history
         → Done shelf_seen seen 1 old new events.RestartManager replies.Done

@@ -1,15 +1,14 @@
 -- What a world passes through when it is looked at, and when a put begins and ends.
 use Rattle.std.proofs.Common.{◌≡◌, ◌∙◌, sym, ap, refl, subst, ℕ, ◌≤◌, Bool, false, List, [], length, get_or, Option, Some, None, IsSome, Ok, arith}
-use Rattle.std.specs.Prelude.{IfSome, is_none}
+use Rattle.std.specs.Prelude.{IfSome}
 use Rattle.disk_base.specs.Disk.{FileView}
 use Rattle.disk_base.specs.Shelves.{ShelfView}
 use Rattle.code_mode.specs.declared.mode.Mode.{Mode}
 use Rattle.code_mode.specs.Mode.{total_count}
 use Rattle.code_mode.specs.declared.payload.Payload.{Payload}
 use Rattle.code_mode.specs.VolumeShape.{VolumeShape, last_time, volume_shape}
-use Rattle.volume_entry.specs.Manager.{Manager}
 use Rattle.volume_entry.specs.Reply.{Reply as ToldReply}
-use Rattle.volume_entry.specs.Entry.{EntryOver, Looks}
+use Rattle.volume_entry.specs.Entry.{Looks}
 use Rattle.volume_entry.specs.Entry as entries
 use Rattle.volume_entry.specs.declared.view.View.{View}
 use Rattle.volume_world.specs.Asking.{FitsEvent}
@@ -36,18 +35,10 @@ use Rattle.volume_world.specs.declared.reply.Reply.TheVariants as replies
 use Rattle.volume_world.specs.declared.trace.TraceReply.TheVariants as kept_reply
 use Rattle.volume_world.proofs.Passing.{OnlyBeside, same_beside, sound_beside, passes_nothing, passes_beside, done_alone, not_done_alone}
 use Rattle.volume_world.proofs.FixedRows.{rows_fit}
+use Rattle.volume_world.proofs.StepAnswers.{open_by_end}
 use Rattle.volume_world.proofs.WorldBegins.{begin_answered, end_done}
 use Rattle.volume_world.proofs.WorldFrames.{reserved}
 use Rattle.volume_world.proofs.WorldLooks.{look_done, look_shows}
-
--- ---- a log that is started
-
--- the manager's part isn't shut where its log has an end
-pub open_by_end : {E : Type 0} (seen : E → FileView) (entry : EntryOver E) (m : Manager) → entries.Stands seen entry m → IsSome entry.book.log.end → m.is_shut ≡ false
-open_by_end seen entry m stands open_ = go entry.book.log.end stands.book.shut open_ where
-  go : (end : Option ℕ) → m.is_shut ≡ is_none end → IsSome end → m.is_shut ≡ false
-  go None shut open_ = cc
-  go (Some place) shut open_ = shut
 
 -- ---- the end of a put tells no fault
 

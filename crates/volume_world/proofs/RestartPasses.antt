@@ -24,13 +24,13 @@ use Rattle.volume_world.specs.State.{Puts, State}
 use Rattle.volume_world.specs.Move.{Restarts}
 use Rattle.volume_world.specs.Run.{World}
 use Rattle.volume_world.specs.Trace.{trace_of, reply_kept}
-use Rattle.volume_world.specs.History.{KeptHistory, IsNoted}
+use Rattle.volume_world.specs.History.{KeptHistory, IsNoted, settle_entry}
 use Rattle.volume_world.specs.FixedRows.{FitsRows}
 use Rattle.volume_world.specs.Course.{Part, traces_of, is_fault, fault_count, PartsLead, AreSettling}
 use Rattle.volume_world.specs.OldDisks.{KeptApart, AreDoubtsShut}
 use Rattle.volume_world.specs.Origins.{faults_of, origin_of}
 use Rattle.volume_world.specs.Replying.{MayReply, ShowsMoves}
-use Rattle.volume_world.specs.Restarting.{settle_trace, NotesFirst, restart_reply}
+use Rattle.volume_world.specs.Restarting.{NotesFirst, restart_reply}
 use Rattle.volume_world.specs.Serving.{SettlesEach}
 use Rattle.volume_world.specs.Stations.{StationsOver, HasDisk, is_broken_on, AllStand, AllOutlast, CountsFault, StationsCall, Restarted}
 use Rattle.volume_world.specs.Stations as all
@@ -79,7 +79,7 @@ reply_fits answer = tt
 -- what of the settled records is noted
 abbrev settles_of : ℕ → List Settled → List Part
 settles_of disk [] = []
-settles_of disk (item ∷ rest) = Part.Settling (settle_trace disk item.found) ∷ []
+settles_of disk (item ∷ rest) = Part.Settling (settle_entry disk item.found) ∷ []
 
 settles_are : (disk : ℕ) (items : List Settled) → AreSettling (settles_of disk items)
 settles_are disk [] = tt
@@ -113,7 +113,7 @@ grows_all disk [] reply old mid new same noted =
 grows_all disk (item ∷ rest) reply old mid new first noted = record {
   entries =
       noted.entries ∙ ap (λ xs. xs ++ trace_of (events.Restart disk) reply ∷ []) first.entries
-      ∙ append_assoc old.entries (settle_trace disk item.found ∷ []) (trace_of (events.Restart disk) reply ∷ []);
+      ∙ append_assoc old.entries (settle_entry disk item.found ∷ []) (trace_of (events.Restart disk) reply ∷ []);
   spare = let one = first.spare in let two = noted.spare in omega (arith, one, two);
 }
 

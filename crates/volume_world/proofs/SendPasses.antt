@@ -19,14 +19,14 @@ use Rattle.blob_node.specs.declared.fate.Fate.TheVariants as fate
 use Rattle.volume_entry.specs.TableParts.{shape_of}
 use Rattle.volume_world.specs.Asking.{FitsRequest, CarriesRight}
 use Rattle.volume_world.specs.Course.{Part, traces_of, fault_count, IsDone, PartsLead, AreSettling}
-use Rattle.volume_world.specs.History.{KeptHistory, IsNoted}
+use Rattle.volume_world.specs.History.{KeptHistory, IsNoted, AreNoted}
 use Rattle.volume_world.specs.Mailbag.{late_told}
 use Rattle.volume_world.specs.Move.{IsSendable, MovesAll}
 use Rattle.volume_world.specs.Origins.{faults_of, origin_of}
 use Rattle.volume_world.specs.Replying.{MayReply, ShowsMoves}
 use Rattle.volume_world.specs.Run.{World, next_fate, without_next, moves_of_send, reply_of_send, late_of_send}
 use Rattle.volume_world.specs.Sending.{IsHeardAtOnce, IsUnheard, IsUnhandled, time_behind, items_of, EndsSend, MaySend, IsBarred, IsReady, ServesHeard}
-use Rattle.volume_world.specs.Serving.{AreNoted, settles_of, once_handled, once_heard, IsAsked, AnswersIn, Serves, CountsFault}
+use Rattle.volume_world.specs.Serving.{settles_of, once_handled, once_heard, IsAsked, AnswersIn, Serves, CountsFault}
 use Rattle.volume_world.specs.State.{Puts, Post, State}
 use Rattle.volume_world.specs.Stepping.{IsSound, IsAt, FitsLate, Done}
 use Rattle.volume_world.specs.Trace.{trace_of, request_kept, reply_kept, answer_kept}
@@ -47,10 +47,10 @@ use Rattle.volume_world.proofs.AskedUnits.{asks_unit}
 use Rattle.volume_world.proofs.Mailbags.{next_is}
 use Rattle.volume_world.proofs.MemoryWorlds.{OnlyMemory, memory_then, memory_same, memory_sound, memory_short}
 use Rattle.volume_world.proofs.Passing.{SameVolume, origin_same, in_back, longer, no_fault, one_fault}
-use Rattle.volume_world.proofs.PutPasses.{open_by_end}
 use Rattle.volume_world.proofs.SendFates.{told_items, told_heard, told_unheard, told_unhandled, in_time, unhandled_moves, unheard_moves, all_heard_moves, carries_begun, heard_carries, fault_rises}
 use Rattle.volume_world.proofs.SentWorlds.{in_either, sent_heard, sent_unheard, sent_stands}
 use Rattle.volume_world.proofs.ServedPasses.{asked_in, settles_settle, settles_few, settles_faultless, served_same, served_sound, answered_stands}
+use Rattle.volume_world.proofs.StepAnswers.{open_by_end}
 use Rattle.volume_world.proofs.Stretches.{leads_on, traces_on, faults_more}
 
 -- ---- the entries of a settle and of an event

@@ -28,7 +28,8 @@ use Rattle.volume_world.specs.Course.{Part, GivesRight, PartsLead}
 use Rattle.volume_world.specs.Event.{Event}
 use Rattle.volume_world.specs.Origins.{origin_of}
 use Rattle.volume_world.specs.Run.{World}
-use Rattle.volume_world.specs.Serving.{told_of, settles_of, once_settled, AreNoted, HandlesIn, IsAsked, AnswersIn, ServesIn, CountsFault, Serves}
+use Rattle.volume_world.specs.History.{AreNoted}
+use Rattle.volume_world.specs.Serving.{told_of, settles_of, once_settled, HandlesIn, IsAsked, AnswersIn, ServesIn, CountsFault, Serves}
 use Rattle.volume_world.specs.State.{Puts, State}
 use Rattle.volume_world.specs.Stations.{StationsOver, AllOutlast, AllStand, is_broken_on, Handles, Handled, StationsCall, TellsDoubt}
 use Rattle.volume_world.specs.Stations as all

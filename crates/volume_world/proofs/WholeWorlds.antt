@@ -16,8 +16,9 @@ use Rattle.blob_node.specs.Units.{Units}
 use Rattle.blob_node.specs.Station.{StationOver, HasNone, IsUnused}
 use Rattle.blob_node.specs.Station as single
 use Rattle.blob_node.proofs.Standing.{stands_empty}
+use Rattle.volume_entry.specs.Book.{MayHaveRecord}
 use Rattle.volume_entry.specs.Making.{Makes, IsMade, last_first_end}
-use Rattle.volume_entry.specs.Manager.{fresh_manager}
+use Rattle.volume_entry.specs.Manager.{ManagerRecord, fresh_manager}
 use Rattle.volume_entry.specs.TableParts.{shape_of}
 use Rattle.volume_entry.specs.BookStart.{last_start}
 use Rattle.volume_entry.specs.Entry.{EntryOver}
@@ -26,6 +27,7 @@ use Rattle.volume_entry.specs.declared.shape.Shape.{Shape}
 use Rattle.volume_entry.specs.declared.fault.EntryFault.{EntryFault}
 use Rattle.volume_entry.specs.declared.fault.EntryFault.TheVariants as entry_faults
 use Rattle.volume_entry.proofs.BookEnds.{log_says}
+use Rattle.volume_entry.proofs.EntryMade.{made_none}
 use Rattle.volume_world.specs.State.{fresh}
 use Rattle.volume_world.specs.History.{KeptHistory}
 use Rattle.volume_world.specs.Mailbag.{KeptLate}
@@ -35,7 +37,7 @@ use Rattle.volume_world.specs.Stations as all
 use Rattle.volume_world.specs.World.{WorldOver}
 use Rattle.volume_world.specs.Origins.{are_told, is_of_homes, made_with}
 use Rattle.volume_world.specs.Stepping.{AreStill, FitsLate, IsShort, IsSound, IsAt}
-use Rattle.volume_world.specs.WorldMaking.{CanMake, CountsRefusal, FitsHomes, HandsBack, HaveUnits, IsMadeOf, IsNewStation, MakesFirst, MakesUnits, RefusedOver, entry_fault, location_of, locations, none_written}
+use Rattle.volume_world.specs.WorldMaking.{CanMake, CountsRefusal, FitsHomes, HandsBack, HaveNone, HaveUnits, IsMadeOf, IsNewStation, IsPlain, LeavesLog, MakesFirst, MakesUnits, RefusedOver, entry_fault, location_of, locations, none_written}
 use Rattle.volume_world.specs.declared.world_fault.WorldFault.{WorldFault}
 use Rattle.volume_world.specs.declared.world_fault.WorldFault.TheVariants.{Fault, Memory}
 use Rattle.volume_world.proofs.FirstWorlds.{first_stands}
@@ -45,6 +47,15 @@ use Rattle.volume_world.proofs.StationsLasting.{all_last, lasting_are, lasting_s
 if_some : {A : Type 0} (P : Type 0) (content : Option A) → IsSome content → IfSome content (λ _. P) → P
 if_some P None some told = cc
 if_some P (Some x) some told = told
+
+-- a file that tells nothing
+not_told : {A : Type 0} (content : Option A) → content ≡ None → IsSome content → ⊥
+not_told None is some = cc
+not_told (Some x) is some = cc
+
+untold : {A : Type 0} (P : Type 0) (content : Option A) → content ≡ None → IfSome content (λ _. P)
+untold P None is = tt
+untold P (Some x) is = absurd (not_told (Some x) is refl)
 
 not_in : {A : Type 0} (P : A → Type 0) (items : List A) → items ≡ [] → (item : A) → IsIn item items → P item
 not_in P items none item there = absurd (subst (IsIn item) none there)
@@ -131,6 +142,14 @@ module _ {H F : Type 0} (shelf_seen : H → ShelfView F) (seen : F → FileView)
         record { first = disk.first; last = disk.last };
   })
 
+  -- at first no unit is made
+  none_yet : are_told shelf_seen seen items ≡ true → HaveNone shelf_seen seen homes items
+  none_yet told = record {
+    made =
+        new_stand shelf_seen seen vid 1 items (fresh (locations homes) (is_of_homes 0 (locations homes))).units can.are.on can.new told (none_at_first (locations homes));
+    unbroken = new_unbroken shelf_seen seen vid items can.new;
+  }
+
   module _ (stations : StationsOver H F) (made : MakesFirst shelf_seen seen homes (length homes) given stations) (entry : EntryOver F) (is : IsMade seen vid shape (locations homes) file entry)
       (puts : KeptPuts) (none_put : (total : ℕ) (homes : List Location) (is_made : Place → Bool) → Books total puts.puts (fresh homes is_made).puts)
       (late : KeptLate) (none_late : late.items ≡ []) (history : KeptHistory) (none_noted : history.entries ≡ []) where
@@ -174,8 +193,7 @@ module _ {H F : Type 0} (shelf_seen : H → ShelfView F) (seen : F → FileView)
         let total = (shape_of shape).total in
         let locs = locations homes in
         let manager = if_some (entries.Stands seen entry (fresh_manager locs)) (seen file).content content is.stands in
-        let first = new_stand shelf_seen seen vid 1 items (fresh locs (is_of_homes 0 locs)).units can.are.on can.new told (none_at_first locs) in
-        let stand : HaveUnits shelf_seen seen locs total stations.stations = subst (λ n. HaveUnits shelf_seen seen locs n stations.stations) counted (made.made first) in
+        let stand : HaveUnits shelf_seen seen locs total stations.stations = subst (λ n. HaveUnits shelf_seen seen locs n stations.stations) counted (made.made (none_yet told)) in
         record {
           stands = first_stands shelf_seen seen world locs (is_of_homes total locs) (length items) manager is.unbroken stand (none_put total locs (is_of_homes total locs)) refl none_late refl;
           short = subst (λ n. IsShort n (seen entry.book.log.file)) (sym (ap length none_noted)) (made_short seen entry locs manager is.early);
@@ -202,20 +220,53 @@ module _ {H F : Type 0} (shelf_seen : H → ShelfView F) (seen : F → FileView)
 
   -- ---- refusals
 
+  -- a file that tells its bytes is a new one
+  entry_plain : (homes : List Location) (fault : EntryFault) (left : F) → Makes seen vid shape homes file (Err (fault, left)) → IsSome (seen file).content → IsPlain (entry_fault fault)
+  entry_plain homes entry_faults.Fault left makes content = tt
+  entry_plain homes entry_faults.Memory left makes content = tt
+  entry_plain homes (entry_faults.Spoiled place) left makes content = absurd (not_told (seen file).content makes.1 content)
+  entry_plain homes entry_faults.Shut left makes content = absurd makes
+
+  entry_leaves : (fault : EntryFault) (left : F) → Makes seen vid shape (locations homes) file (Err (fault, left)) → LeavesLog shelf_seen seen vid mode homes file left
+  entry_leaves entry_faults.Fault left makes = makes.1
+  entry_leaves entry_faults.Memory left makes = go (seen file).content (seen left).content makes.1 where
+    go : (was now : Option (List ℕ)) → IfSome was (λ _. IsSomeAnd now (λ bytes. IsLogOf bytes []))
+        → IfSome was (λ _. IsSomeAnd now (MayHaveRecord vid mode [] (ManagerRecord.Made (locations homes))))
+    go None now empty = tt
+    go (Some bytes) None empty = absurd empty
+    go (Some bytes) (Some more) empty = inl empty
+  entry_leaves (entry_faults.Spoiled place) left makes = untold (IsSomeAnd (seen left).content (MayHaveRecord vid mode [] (ManagerRecord.Made (locations homes)))) (seen file).content makes.1
+  entry_leaves entry_faults.Shut left makes = absurd makes
+
+  -- a file that wasn't touched
+  untouched : LeavesLog shelf_seen seen vid mode homes file file
+  untouched = entry_leaves entry_faults.Memory file (made_none seen vid shape (locations homes) file can.is_new)
+
   pub none_handed : (over : StationsOver H F) (refused : RefusedOver H F) → over ≡ given → refused ≡ record { fault = Memory; stations = over.stations; file = file }
-      → HandsBack shelf_seen seen items file refused
-  none_handed over refused over_is is = subst (HandsBack shelf_seen seen items file) (sym (is ∙ ap (λ (o : StationsOver H F). record { fault = Memory; stations = o.stations; file = file }) over_is))
-      (record { lasts = all_last shelf_seen seen items; counts = omega arith })
+      → HandsBack shelf_seen seen vid mode items file homes refused
+  none_handed over refused over_is is =
+      subst (HandsBack shelf_seen seen vid mode items file homes) (sym (is ∙ ap (λ (o : StationsOver H F). record { fault = Memory; stations = o.stations; file = file }) over_is)) (record {
+        lasts = all_last shelf_seen seen items;
+        unbroken = new_unbroken shelf_seen seen vid items can.new;
+        counts = omega arith;
+        plain = λ told content. tt;
+        units = λ told. record { count = 0; few = omega arith; made = (none_yet told).made };
+        log = untouched;
+      })
 
   beside : (a b f : ℕ) (fault : WorldFault) → CountsRefusal a b fault → CountsRefusal (a + f) (b + f) fault
   beside a b f Fault rose = omega (arith, rose)
   beside a b f _ counts = omega (arith, counts)
 
   pub units_handed : (new : StationsOver H F) (fault : WorldFault) (refused : RefusedOver H F) → MakesUnits shelf_seen seen homes given new (Err fault)
-      → refused ≡ record { fault = fault; stations = new.stations; file = file } → HandsBack shelf_seen seen items file refused
-  units_handed new fault refused makes is = subst (HandsBack shelf_seen seen items file) (sym is) (record {
-    lasts = makes.0.lasts;
-    counts = beside (all.faults_of shelf_seen seen items) (all.faults_of shelf_seen seen new.stations) (seen file).faults fault makes.1;
+      → refused ≡ record { fault = fault; stations = new.stations; file = file } → HandsBack shelf_seen seen vid mode items file homes refused
+  units_handed new fault refused makes is = subst (HandsBack shelf_seen seen vid mode items file homes) (sym is) (record {
+    lasts = makes.keeps.lasts;
+    unbroken = λ disk. makes.keeps.broken disk ∙ new_unbroken shelf_seen seen vid items can.new disk;
+    counts = beside (all.faults_of shelf_seen seen items) (all.faults_of shelf_seen seen new.stations) (seen file).faults fault makes.counts;
+    plain = λ told content. makes.plain (none_yet told);
+    units = λ told. makes.made (none_yet told);
+    log = untouched;
   })
 
   entry_counts : (a b : ℕ) (homes : List Location) (fault : EntryFault) (left : F) → a ≤ b → Makes seen vid shape homes file (Err (fault, left))
@@ -225,9 +276,14 @@ module _ {H F : Type 0} (shelf_seen : H → ShelfView F) (seen : F → FileView)
   entry_counts a b homes (entry_faults.Spoiled place) left less makes = let same = makes.0 in omega (arith, less, same)
   entry_counts a b homes entry_faults.Shut left less makes = absurd makes
 
-  pub entry_handed : (new : StationsOver H F) (first : List Location) (fault : EntryFault) (left : F) (refused : RefusedOver H F) → MakesFirst shelf_seen seen homes (length homes) given new
-      → Makes seen vid shape first file (Err (fault, left)) → refused ≡ record { fault = entry_fault fault; stations = new.stations; file = left } → HandsBack shelf_seen seen items file refused
-  entry_handed new first fault left refused made makes is = subst (HandsBack shelf_seen seen items file) (sym is) (record {
+  pub entry_handed : (new : StationsOver H F) (fault : EntryFault) (left : F) (refused : RefusedOver H F) → MakesFirst shelf_seen seen homes (length homes) given new
+      → Makes seen vid shape (locations homes) file (Err (fault, left)) → refused ≡ record { fault = entry_fault fault; stations = new.stations; file = left }
+      → HandsBack shelf_seen seen vid mode items file homes refused
+  entry_handed new fault left refused made makes is = subst (HandsBack shelf_seen seen vid mode items file homes) (sym is) (record {
     lasts = made.keeps.lasts;
-    counts = entry_counts (all.faults_of shelf_seen seen items) (all.faults_of shelf_seen seen new.stations) first fault left made.counts makes;
+    unbroken = λ disk. made.keeps.broken disk ∙ new_unbroken shelf_seen seen vid items can.new disk;
+    counts = entry_counts (all.faults_of shelf_seen seen items) (all.faults_of shelf_seen seen new.stations) (locations homes) fault left made.counts makes;
+    plain = λ told. entry_plain (locations homes) fault left makes;
+    units = λ told. record { count = length homes; few = omega arith; made = made.made (none_yet told) };
+    log = entry_leaves fault left makes;
   })

@@ -1,5 +1,5 @@
 -- A start of the manager's log of a volume: before an event that needs it, and at a restart of the manager.
-use Rattle.std.specs.Prelude.{◌≡◌, ◌≤◌, ◌+◌, Bool, true, false, List, [], ◌∷◌, ◌++◌, length, None, IsSome, Result, Ok, Err, IfErr}
+use Rattle.std.specs.Prelude.{◌≡◌, ◌≤◌, Bool, true, false, List, [], ◌∷◌, length, None, IsSome, Result, Ok, Err, IfErr}
 use Rattle.disk_base.specs.Disk.{FileView, Lasts}
 use Rattle.disk_base.specs.Shelves.{ShelfView}
 use Rattle.volume_entry.specs.Book.{KeepsBodies}
@@ -7,10 +7,9 @@ use Rattle.volume_entry.specs.BookStart.{EndsInTime, IsSpoiledAtEnd, IsStartCaus
 use Rattle.volume_entry.specs.Entry.{EntryOver, EntryCall, Restarts}
 use Rattle.volume_entry.specs.declared.fault.EntryFault.{EntryFault}
 use Rattle.volume_world.specs.Event.{Event as ToldEvent}
-use Rattle.volume_world.specs.Trace.{event_kept, trace_of}
-use Rattle.volume_world.specs.Told.{event_told}
-use Rattle.volume_world.specs.History.{KeptHistory, IsNoted}
-use Rattle.volume_world.specs.Course.{Part, traces_of, AreSettling}
+use Rattle.volume_world.specs.Trace.{trace_of}
+use Rattle.volume_world.specs.History.{KeptHistory, IsNoted, settle_entry}
+use Rattle.volume_world.specs.Course.{Part, AreSettling}
 use Rattle.volume_world.specs.World.{WorldOver}
 use Rattle.volume_world.specs.Stepping.{Passes, Takes}
 use Rattle.volume_world.specs.declared.event.Event.{Event}
@@ -18,9 +17,6 @@ use Rattle.volume_world.specs.declared.event.Event.TheVariants as events
 use Rattle.volume_world.specs.declared.reply.Reply.{Reply}
 use Rattle.volume_world.specs.declared.reply.Reply.TheVariants as replies
 use Rattle.volume_world.specs.declared.fault.StepFault.{StepFault}
-use Rattle.volume_world.specs.declared.trace.TraceEvent.TheVariants as kept_event
-use Rattle.volume_world.specs.declared.trace.TraceReply.TheVariants as kept_reply
-use Rattle.volume_world.specs.declared.trace.Trace.{Trace}
 
 -- an event that needs the manager's log
 abbrev pub NeedsLog : ToldEvent → Type 0
@@ -34,23 +30,14 @@ NeedsLog event = Unit {0}
 
 -- ---- entries
 
--- the entries of a stretch stand at the end
-pub record AreNoted (parts : List Part) (old new : KeptHistory) : Type 0 where
-  pub entries : new.entries ≡ old.entries ++ traces_of parts
-  pub spare : old.spare ≤ new.spare + length parts
-
 -- the event stands there with its reply, and nothing where there was no memory
 abbrev pub NotesReply : Event → KeptHistory → KeptHistory → Result Reply StepFault → Type 0
 NotesReply event old new (Ok reply) = IsNoted (trace_of event reply) old new
 NotesReply event old new (Err _) = new ≡ old
 
--- the manager's log was shut and is started, with its record in doubt or without it
-abbrev pub settle_entry : Bool → Trace
-settle_entry kept = record { event = kept_event.Settle 0 kept; reply = kept_reply.Done }
-
 -- the entries of a restart of the manager whose log was shut, or wasn't
 abbrev pub restart_parts : Bool → Bool → List Part
-restart_parts true kept = Part.Settling (settle_entry kept) ∷ Part.Asking events.RestartManager replies.Done ∷ []
+restart_parts true kept = Part.Settling (settle_entry 0 kept) ∷ Part.Asking events.RestartManager replies.Done ∷ []
 restart_parts false kept = Part.Asking events.RestartManager replies.Done ∷ []
 
 -- ---- starts

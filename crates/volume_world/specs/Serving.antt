@@ -1,5 +1,5 @@
 -- What a request that the stations handle is of the protocol: which record in doubt it settles, how it is answered, and what is heard of it.
-use Rattle.std.specs.Prelude.{ℕ, ◌≡◌, ◌+◌, ◌≤◌, ◌++◌, Bool, true, false, List, [], ◌∷◌, length, Option, Some, None, Result, Ok, Err}
+use Rattle.std.specs.Prelude.{ℕ, ◌≡◌, ◌≤◌, Bool, true, false, List, [], ◌∷◌, length, Option, Some, None, Result, Ok, Err}
 use Rattle.unit_id.specs.Lists.{IsIn}
 use Rattle.unit_id.specs.Place.{Place}
 use Rattle.unit_id.specs.Messages.{place_at, request_of, answer_of}
@@ -24,11 +24,9 @@ use Rattle.volume_world.specs.Move.{Handles, puts_hear}
 use Rattle.volume_world.specs.Run.{World, IsSettledOn}
 use Rattle.volume_world.specs.Stations.{AllStand, AllOutlast, is_broken_on, faults_of}
 use Rattle.volume_world.specs.World.{WorldOver, Stands, CarriesBegun, AreAsBegun}
-use Rattle.volume_world.specs.History.{KeptHistory}
-use Rattle.volume_world.specs.Course.{Part, traces_of, GivesRight, PartsLead}
+use Rattle.volume_world.specs.History.{AreNoted, settle_entry}
+use Rattle.volume_world.specs.Course.{Part, GivesRight, PartsLead}
 use Rattle.volume_world.specs.Origins.{origin_of}
-use Rattle.volume_world.specs.declared.trace.TraceEvent.TheVariants as kept_event
-use Rattle.volume_world.specs.declared.trace.TraceReply.TheVariants as kept_reply
 use Rattle.volume_world.specs.declared.fault.StepFault.{StepFault}
 use Rattle.volume_world.specs.declared.fault.StepFault.TheVariants.{HistoryFull, Memory}
 
@@ -44,12 +42,7 @@ once_settled place told s = record s { units = settled_by place told s.units }
 -- .. as a stretch of the history
 abbrev pub settles_of : ℕ → Option Bool → List Part
 settles_of disk None = []
-settles_of disk (Some kept) = Part.Settling (record { event = kept_event.Settle disk kept; reply = kept_reply.Done }) ∷ []
-
--- the entries of a stretch stand at the end, and there is so much less room
-pub record AreNoted (parts : List Part) (old new : KeptHistory) : Type 0 where
-  pub entries : new.entries ≡ old.entries ++ traces_of parts
-  pub spare : old.spare ≤ new.spare + length parts
+settles_of disk (Some kept) = Part.Settling (settle_entry disk kept) ∷ []
 
 -- these records in doubt of a disk are settled in turn
 abbrev pub SettlesEach : ℕ → State → List Settled → State → Type 0

@@ -1,5 +1,5 @@
 -- How a world is made: of what, what it then is, and what a refusal hands back.
-use Rattle.std.specs.Prelude.{ℕ, suc, ◌≡◌, ◌+◌, ◌<◌, ◌≤◌, true, false, List, [], ◌∷◌, map, length, IsSome, Result, Ok, Err}
+use Rattle.std.specs.Prelude.{ℕ, suc, ◌≡◌, ◌+◌, ◌<◌, ◌≤◌, true, false, List, [], ◌∷◌, map, length, IfSome, IsSome, IsSomeAnd, Result, Ok, Err}
 use Rattle.unit_id.specs.Lists.{IsIn}
 use Rattle.unit_id.specs.Place.{Location, Place}
 use Rattle.unit_id.specs.Messages.{place_at}
@@ -14,8 +14,9 @@ use Rattle.code_mode.specs.declared.mode.Mode.{Mode}
 use Rattle.blob_node.specs.Units.{Units, with_unit}
 use Rattle.blob_node.specs.Holding.{Written, nothing_written}
 use Rattle.blob_node.specs.Station.{StationOver, IsUnused}
+use Rattle.volume_entry.specs.Book.{MayHaveRecord}
 use Rattle.volume_entry.specs.Making.{IsNew}
-use Rattle.volume_entry.specs.Manager.{AreFirstHomes, home_at}
+use Rattle.volume_entry.specs.Manager.{AreFirstHomes, ManagerRecord, home_at}
 use Rattle.volume_entry.specs.TableParts.{shape_of}
 use Rattle.volume_entry.specs.declared.fault.EntryFault.{EntryFault}
 use Rattle.volume_entry.specs.declared.fault.EntryFault.TheVariants as entry_faults
@@ -80,6 +81,12 @@ abbrev pub CountsMaking : ℕ → ℕ → Result (Unit {0}) WorldFault → Type 
 CountsMaking before now (Ok _) = before ≤ now
 CountsMaking before now (Err fault) = CountsRefusal before now fault
 
+-- a file failed, or there was no memory
+abbrev pub IsPlain : WorldFault → Type 0
+IsPlain Fault = Unit {0}
+IsPlain Memory = Unit {0}
+IsPlain _ = ⊥
+
 -- nothing was written to any unit
 abbrev pub none_written : Place → Written
 none_written place = nothing_written
@@ -94,32 +101,55 @@ module _ {H F : Type 0} (shelf_seen : H → ShelfView F) (seen : F → FileView)
     pub broken : (disk : ℕ) → is_broken_on new.stations disk ≡ is_broken_on old.stations disk
     pub lasts : AllOutlast shelf_seen seen old.stations new.stations
 
-  -- a unit is made at a place, where no shut chunk stood
-  abbrev pub HasUnit : Place → StationsOver H F → StationsOver H F → Result (Unit {0}) WorldFault → Type 0
-  HasUnit place old new (Ok _) =
-      (units : Units) → units.is_shut place ≡ false → AllStand shelf_seen seen old.stations none_written units → AllStand shelf_seen seen new.stations none_written (with_unit place units)
-  HasUnit place old new (Err _) = Unit {0}
+  -- a unit can be made at a place: its disk works and has no unit of its index, and no shut chunk
+  pub record IsFree (stations : StationsOver H F) (units : Units) (place : Place) : Type 0 where
+    pub stand : AllStand shelf_seen seen stations.stations none_written units
+    pub unbroken : is_broken_on stations.stations place.disk ≡ false
+    pub unmade : (epoch : ℕ) → units.is_made (record { index = place.index; epoch = epoch; disk = place.disk }) ≡ false
+    pub open_ : units.is_shut place ≡ false
+
+  -- the unit at a place is made besides these, or it isn't
+  abbrev pub HasUnit : Place → Units → StationsOver H F → Result (Unit {0}) WorldFault → Type 0
+  HasUnit place units new (Ok _) = AllStand shelf_seen seen new.stations none_written (with_unit place units)
+  HasUnit place units new (Err fault) = IsPlain fault × AllStand shelf_seen seen new.stations none_written units
 
   pub record MakesUnit (home : Home) (old new : StationsOver H F) (result : Result (Unit {0}) WorldFault) : Type 0 where
     pub keeps : KeepsStations old new
     pub counts : CountsMaking (all.faults_of shelf_seen seen old.stations) (all.faults_of shelf_seen seen new.stations) result
-    pub made : HasUnit (place_at home.unit home.disk) old new result
+    pub made : (units : Units) → IsFree old units (place_at home.unit home.disk) → HasUnit (place_at home.unit home.disk) units new result
 
   -- stations on which the units of the first so many homes are made
   abbrev pub HaveUnits : List Location → ℕ → List (StationOver H F) → Type 0
   HaveUnits homes count stations = AllStand shelf_seen seen stations none_written (fresh homes (is_of_homes count homes)).units
 
+  -- .. of the first so many, and of no others
+  pub record HaveSome (homes : List Home) (stations : List (StationOver H F)) : Type 0 where
+    pub count : ℕ
+    pub few : count ≤ length homes
+    pub made : HaveUnits (locations homes) count stations
+
+  -- no unit is made yet, and each disk works
+  pub record HaveNone (homes : List Home) (stations : List (StationOver H F)) : Type 0 where
+    pub made : HaveUnits (locations homes) 0 stations
+    pub unbroken : (disk : ℕ) → is_broken_on stations disk ≡ false
+
   -- the first so many units are made
   pub record MakesFirst (homes : List Home) (count : ℕ) (old new : StationsOver H F) : Type 0 where
     pub keeps : KeepsStations old new
     pub counts : all.faults_of shelf_seen seen old.stations ≤ all.faults_of shelf_seen seen new.stations
-    pub made : HaveUnits (locations homes) 0 old.stations → HaveUnits (locations homes) count new.stations
+    pub made : HaveNone homes old.stations → HaveUnits (locations homes) count new.stations
 
-  -- all units are made, or a refusal leaves the stations those of their disks
+  -- a refusal to make the units leaves the stations those of their disks, with the first of the units
+  pub record RefusesUnits (homes : List Home) (old new : StationsOver H F) (fault : WorldFault) : Type 0 where
+    pub keeps : KeepsStations old new
+    pub counts : CountsRefusal (all.faults_of shelf_seen seen old.stations) (all.faults_of shelf_seen seen new.stations) fault
+    pub plain : HaveNone homes old.stations → IsPlain fault
+    pub made : HaveNone homes old.stations → HaveSome homes new.stations
+
+  -- all units are made, or they are refused
   abbrev pub MakesUnits : List Home → StationsOver H F → StationsOver H F → Result (Unit {0}) WorldFault → Type 0
   MakesUnits homes old new (Ok _) = MakesFirst homes (length homes) old new
-  MakesUnits homes old new (Err fault) =
-      KeepsStations old new × CountsRefusal (all.faults_of shelf_seen seen old.stations) (all.faults_of shelf_seen seen new.stations) fault
+  MakesUnits homes old new (Err fault) = RefusesUnits homes old new fault
 
   -- ---- the world
 
@@ -154,11 +184,20 @@ module _ {H F : Type 0} (shelf_seen : H → ShelfView F) (seen : F → FileView)
     pub faults : faults_before stations file ≤ faults_of shelf_seen seen world
     pub told : are_told shelf_seen seen stations ≡ true → IsSome (seen file).content → IsAt shelf_seen seen world (made_with (shape_of world.shape).total world.first)
 
-  -- A world isn't made: what was handed in comes back. A fault comes only where a count of these rose.
-  pub record HandsBack (stations : List (StationOver H F)) (file : F) (refused : RefusedOver H F) : Type 0 where
+  -- where the file told its bytes, those of the other are an empty log's, or one's with the record of the making alone
+  abbrev pub LeavesLog : ℕ → Mode → List Home → F → F → Type 0
+  LeavesLog vid mode homes file left = IfSome (seen file).content (λ _. IsSomeAnd (seen left).content (MayHaveRecord vid mode [] (ManagerRecord.Made (locations homes))))
+
+  -- A world isn't made: what was handed in comes back, each station on its disk. A fault comes only where a count of these rose. Where all
+  -- files told, there is no other cause but memory, and the stations have the units of the first homes and nothing else.
+  pub record HandsBack (vid : ℕ) (mode : Mode) (stations : List (StationOver H F)) (file : F) (homes : List Home) (refused : RefusedOver H F) : Type 0 where
     pub lasts : AllOutlast shelf_seen seen stations refused.stations
+    pub unbroken : (disk : ℕ) → is_broken_on refused.stations disk ≡ false
     pub counts : CountsRefusal (faults_before stations file) (faults_before refused.stations refused.file) refused.fault
+    pub plain : are_told shelf_seen seen stations ≡ true → IsSome (seen file).content → IsPlain refused.fault
+    pub units : are_told shelf_seen seen stations ≡ true → HaveSome homes refused.stations
+    pub log : LeavesLog vid mode homes file refused.file
 
   abbrev pub MakesWorld : ℕ → Mode → List (StationOver H F) → F → List Home → Result (WorldOver H F) (RefusedOver H F) → Type 0
   MakesWorld vid mode stations file homes (Ok world) = IsMadeOf vid mode stations file homes world
-  MakesWorld vid mode stations file homes (Err refused) = HandsBack stations file refused
+  MakesWorld vid mode stations file homes (Err refused) = HandsBack vid mode stations file homes refused

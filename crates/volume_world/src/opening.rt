@@ -2,8 +2,9 @@
 
 ghost use Rattle.std.specs.Prelude.{◌≡◌, ◌≤◌};
 ghost use Rattle.volume_entry.specs.TableParts.{Tells};
+ghost use Rattle.volume_world.specs.History.{AreNoted};
 ghost use Rattle.volume_world.specs.ManagerReplies.{IsStartFault, start_refusal};
-ghost use Rattle.volume_world.specs.Opening.{AreNoted, NeedsLog, NotesReply, Opens, restart_parts, StartsEntry, StartsLog};
+ghost use Rattle.volume_world.specs.Opening.{NeedsLog, NotesReply, Opens, restart_parts, StartsEntry, StartsLog};
 ghost use Rattle.volume_world.specs.Stepping.{HasRoom, IsSound, Takes};
 ghost use Rattle.volume_world.specs.Told.{event_told};
 ghost use Rattle.volume_world.specs.Trace.{event_kept};

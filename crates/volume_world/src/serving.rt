@@ -6,8 +6,9 @@ ghost use Rattle.blob_node.specs.HeldUnit.{disk_of};
 ghost use Rattle.volume_entry.specs.HeardCalls.{is_listing};
 ghost use Rattle.volume_entry.specs.HeardMemory.{HasRoom as HasRoomFor};
 ghost use Rattle.volume_world.specs.Asking.{FitsRequest};
+ghost use Rattle.volume_world.specs.History.{AreNoted};
 ghost use Rattle.volume_world.specs.Origins.{origin_of};
-ghost use Rattle.volume_world.specs.Serving.{AreNoted, IsHeardBy, Serves, settles_of, told_of};
+ghost use Rattle.volume_world.specs.Serving.{IsHeardBy, Serves, settles_of, told_of};
 ghost use Rattle.volume_world.specs.Stepping.{IsSound};
 
 use crate::parts::Parts;

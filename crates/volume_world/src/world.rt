@@ -8,7 +8,7 @@ ghost use Rattle.volume_world.specs.WorldMaking.{CanMake, MakesWorld};
 ghost use Rattle.volume_world.specs.WorldWay.{way_of, IsSameWorld, IsSure, IsWorld, Reserves};
 
 use crate::parts::Parts;
-use crate::{Event, MakeRefused, Reply, StepFault, Trace};
+use crate::{Event, MakeRefused, Port, Reply, StepFault, Trace};
 use blob_node::Station;
 use code_mode::Mode;
 use disk_base::Shelf;
@@ -54,7 +54,8 @@ impl<H: Shelf> World<H> {
     /// # Errors
     ///
     /// Each hands back the stations, with the units that were made until then, and the file. `Fault` comes only where a call
-    /// on one of these failed.
+    /// on one of these failed. Where the shelves and the file tell what they hold, only `Fault` and `Memory` come; then the
+    /// stations stand for the units of the first homes, and the file for a log with no record or with that of the making.
     pub fn make(
         alloc: Global,
         vid: u32,
@@ -139,12 +140,26 @@ impl<H: Shelf> World<H> {
         }
         self.parts.step(event)
     }
+}
 
-    /// What is true of every way to a volume is true of a world as the way to its own: where its files tell what they hold, it
-    /// stands for a state of the protocol to which its history leads.
-    pub fn is_way(&self)
-        ensures { IsWay (way_of H.seen H.File.seen self.now) }
-    {
+/// A world is the way to its own volume, by which nobody else steps it. Where its files tell what they hold, it stands for a
+/// state of the protocol to which its history leads.
+impl<H: Shelf> Port for World<H> {
+    ghost seen = { way_of H.seen H.File.seen };
+
+    fn step(&mut self, event: Event) -> Result<Reply, StepFault> {
+        World::step(self, event)
+    }
+
+    fn mode(&self) -> Mode {
+        World::mode(self)
+    }
+
+    fn vid(&self) -> u32 {
+        World::vid(self)
+    }
+
+    fn is_way(&self) {
         let _ = &self.parts;
     }
 }

@@ -14,7 +14,7 @@ use Rattle.blob_access.proofs.getting.get.Goals as goal
 pub returns-in_err-sight-clause-gets : goal.returns-in_err-sight-clause-gets
 returns-in_err-sight-clause-gets g c =
     let wanted : Wanted = record { mode = c.mode-mode.result; bid = c.args.bid; size = c.args.size } in
-    gets_whole _ _ c.args.bid c.args.size c.from_residual.result c.mode-mode.result c.mode-mode.ensures (g.met.P.Port.is_way c.args.port.now)
+    gets_whole _ _ c.args.bid c.args.size c.from_residual.result c.mode-mode.result c.mode-mode.ensures c.is_way.ensures
     (gets_failed_by wanted _ _ (Next.Go GetStage.First) c.from_residual.result c.in_err-sight.field-0.0 (λ (sight : Sight). starting wanted.mode (sight.version ∷ []) sight.units) (λ bytes. Next.Over (Ok bytes)) (search rules) (c.in_err-sight.ensures.first wanted))
 
 pub tries-init : goal.tries-init
@@ -35,7 +35,7 @@ pub returns-in_err-blob-clause-gets : goal.returns-in_err-blob-clause-gets
 returns-in_err-blob-clause-gets g c =
     let wanted : Wanted = record { mode = c.mode-mode.result; bid = c.args.bid; size = c.args.size } in
     let fault = c.in_err-blob.field-0.0 in
-    gets_whole _ _ c.args.bid c.args.size c.from_residual-in_err-blob.result c.mode-mode.result c.mode-mode.ensures (g.met.P.Port.is_way c.args.port.now)
+    gets_whole _ _ c.args.bid c.args.size c.from_residual-in_err-blob.result c.mode-mode.result c.mode-mode.ensures c.is_way.ensures
     (gets_failed_by {T = Attempt} wanted _ _ (Next.Go GetStage.First) c.from_residual-in_err-blob.result fault (attempted c.tries.versions) (λ bytes. Next.Over (Ok bytes)) (search rules)
     (gets_on {T = Attempt} wanted _ _ (g.P.Port.seen c.try_once.new.port) (Next.Go GetStage.First) (starting wanted.mode c.tries.versions c.tries.sight.units) (Err fault) (attempted c.tries.versions) c.tries.invariant.gone (c.in_err-blob.ensures.tries c.tries.versions)))
 
@@ -45,7 +45,7 @@ returns-in-Blob-clause-gets g c =
     let a = g.P.Port.seen c.args.port.now in
     let e = g.P.Port.seen c.try_once.new.port in
     let tried = subst (λ (x : Attempt). Proceeds (get_call wanted) (g.P.Port.seen c.tries.port) e (starting wanted.mode c.tries.versions c.tries.sight.units) (attempted c.tries.versions x)) c.in-Blob.is (c.in_ok-blob.ensures.tries c.tries.versions) in
-    gets_whole a e c.args.bid c.args.size (Ok c.in-Blob.blob) c.mode-mode.result c.mode-mode.ensures (g.met.P.Port.is_way c.args.port.now)
+    gets_whole a e c.args.bid c.args.size (Ok c.in-Blob.blob) c.mode-mode.result c.mode-mode.ensures c.is_way.ensures
     (proceeds_on (get_call wanted) a (g.P.Port.seen c.tries.port) e (Next.Go GetStage.First) (starting wanted.mode c.tries.versions c.tries.sight.units) (Next.Over (Ok c.in-Blob.blob)) c.tries.invariant.gone tried)
 
 pub returns-in_err-sight-in-Missed-clause-gets : goal.returns-in_err-sight-in-Missed-clause-gets
@@ -58,7 +58,7 @@ returns-in_err-sight-in-Missed-clause-gets g c =
     let t = try_of c.tries.versions c.in-Missed.tried in
     let tried = subst (λ (x : Attempt). Proceeds (get_call wanted) (g.P.Port.seen c.tries.port) d (starting wanted.mode c.tries.versions c.tries.sight.units) (attempted c.tries.versions x)) c.in-Missed.is (c.in_ok-blob.ensures.tries c.tries.versions) in
     let before = proceeds_on (get_call wanted) a (g.P.Port.seen c.tries.port) d (Next.Go GetStage.First) (starting wanted.mode c.tries.versions c.tries.sight.units) (Next.Go (GetStage.Again t)) c.tries.invariant.gone tried in
-    gets_whole a e c.args.bid c.args.size c.from_residual-in_err-sight-in-Missed.result c.mode-mode.result c.mode-mode.ensures (g.met.P.Port.is_way c.args.port.now)
+    gets_whole a e c.args.bid c.args.size c.from_residual-in_err-sight-in-Missed.result c.mode-mode.result c.mode-mode.ensures c.is_way.ensures
     (gets_failed_by wanted a e (Next.Go GetStage.First) c.from_residual-in_err-sight-in-Missed.result fault (λ (next : Sight). starting wanted.mode c.look_again.new.versions next.units) (λ bytes. Next.Over (Ok bytes)) (search rules)
     (gets_on wanted a d e (Next.Go GetStage.First) (Next.Go (GetStage.Again t)) (Err fault) (λ (next : Sight). starting wanted.mode c.look_again.new.versions next.units) before (c.in_err-sight-in-Missed.ensures.again wanted)))
 

@@ -13,7 +13,7 @@ returns-in_err-bytes g c = λ payload end left same. puts_nowhere _ _ (PutStage.
 
 pub step-requires : goal.step-requires
 step-requires g c =
-    send_may _ c.args.bid c.args.blob.now c.args.shards.now c.in_ok-bytes.bytes c.args.home.now (g.met.P.Port.is_way c.args.port.now) c.requires.may c.requires.home
+    send_may _ c.args.bid c.args.blob.now c.args.shards.now c.in_ok-bytes.bytes c.args.home.now c.is_way.ensures c.requires.may c.requires.home
     (c.in_ok-bytes.ensures ∙ ap (λ (n : Name). shard_of c.mode.result c.args.blob.now n.index) c.unit.view_is ∙ ap (λ m. shard_of m c.args.blob.now c.args.home.now.unit.index) c.mode.ensures)
 
 pub returns-in-Ok : goal.returns-in-Ok

@@ -20,7 +20,7 @@ pub write-requires : goal.write-requires
 write-requires g c =
     let b = g.P.Port.seen c.shard_for.new.port in
     let e = c.args.errand.now in
-    copy_may b c.args.work.now.mode e.bid e.journey.index e.journey.dest c.in_ok-row.row (c.requires.work.mode ∙ ap (λ (o : Origin). o.mode) (sym c.in_ok-row.ensures.origin)) (g.met.P.Port.is_way c.shard_for.new.port) c.requires.errand.number
+    copy_may b c.args.work.now.mode e.bid e.journey.index e.journey.dest c.in_ok-row.row (c.requires.work.mode ∙ ap (λ (o : Origin). o.mode) (sym c.in_ok-row.ensures.origin)) c.is_way.ensures c.requires.errand.number
     (subst (λ (o : Origin). IsUnitOn o e.journey.dest.unit e.journey.dest.disk) (sym c.in_ok-row.ensures.origin) c.requires.errand.journey.dest) c.requires.errand.journey.dest_index c.in_ok-row.ensures.right
 
 pub returns-clause-goes : goal.returns-clause-goes

@@ -20,5 +20,5 @@ returns-clause-replies g c = c.in_ok-reply.ensures.fits
 
 pub returns-clause-right : goal.returns-clause-right
 returns-clause-right g c =
-    read_right (g.P.Port.seen c.args.port.now) (g.P.Port.seen c.step.new.port) c.args.home.now.unit c.args.home.now.disk c.args.bid c.in_ok-reply.reply (g.met.P.Port.is_way c.args.port.now) (g.met.P.Port.is_way c.step.new.port)
+    read_right (g.P.Port.seen c.args.port.now) (g.P.Port.seen c.step.new.port) c.args.home.now.unit c.args.home.now.disk c.args.bid c.in_ok-reply.reply c.is_way.ensures c.is_way-2.ensures
     c.in_ok-reply.ensures.happens

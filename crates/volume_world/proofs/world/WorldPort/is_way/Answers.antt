@@ -2,7 +2,7 @@ use Rattle.std.proofs.Common.{subst}
 use Rattle.volume_world.specs.Way.{IsWay}
 use Rattle.volume_world.specs.WorldWay.{way_of}
 use Rattle.volume_world.proofs.Worlds.{is_way}
-use Rattle.volume_world.proofs.world.World.is_way.Goals as goal
+use Rattle.volume_world.proofs.world.WorldPort.is_way.Goals as goal
 
 pub returns : goal.returns
 returns g c =
