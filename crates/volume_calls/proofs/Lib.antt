@@ -1,0 +1,4 @@
+mod CallLemmas
+mod FlushLemmas
+mod StandInSteps
+mod StandInWay
