@@ -331,7 +331,7 @@ in_back : (x : Part) (xs ys : List Part) → IsIn x ys → IsIn x (xs ++ ys)
 in_back x [] ys i = i
 in_back x (y ∷ xs) ys i = inr (in_back x xs ys i)
 
-parts_acked : (origin : Origin) (bid : ℕ) (w : World) (parts : List Part) (v : World) → PartsLead origin w parts v → is_acked (w.state.puts.status bid) ≡ true → is_acked (v.state.puts.status bid) ≡ true
+pub parts_acked : (origin : Origin) (bid : ℕ) (w : World) (parts : List Part) (v : World) → PartsLead origin w parts v → is_acked (w.state.puts.status bid) ≡ true → is_acked (v.state.puts.status bid) ≡ true
 parts_acked origin bid w [] v h acked = ap (λ (x : World). is_acked (x.state.puts.status bid)) h ∙ acked
 parts_acked origin bid w (part ∷ parts) v h acked =
     let one = part_step origin w part h.0 h.1 in

@@ -1,16 +1,17 @@
-mod PutLemmas
+pub mod PutLemmas
 mod Bytes
 mod GetLemmas
 mod GetBytes
 mod Holding
-mod ShortPuts
+pub mod ShortPuts
 mod ShortGets
-mod Later
+pub mod Later
 mod LiveRows
 mod HeardReads
-mod LastTries
+pub mod LastTries
 mod LiveCounts
 mod ShortCauses
-mod GivenBlobs
+pub mod GivenBlobs
 mod CauseExampleProofs
-mod StandInSteps
+pub mod StandInSteps
+pub mod StandInWay

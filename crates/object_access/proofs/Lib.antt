@@ -1,0 +1,5 @@
+mod PieceLemmas
+mod PutLemmas
+mod GetLemmas
+mod BegunProofs
+mod AvailabilityProofs

@@ -1,0 +1,6 @@
+use Rattle.std.proofs.Common.{◌≤◌, length, arith}
+use Rattle.object_access.proofs.PieceLemmas.{bids_from_one}
+use Rattle.object_access.proofs.tests.get_bytes.Goals as goal
+
+pub get_object-requires-clause-numbers : goal.get_object-requires-clause-numbers
+get_object-requires-clause-numbers c = bids_from_one (length c.args.bytes.now) (omega arith) (omega arith)
