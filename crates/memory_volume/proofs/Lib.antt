@@ -1,0 +1,5 @@
+mod NewStations
+mod FirstUnits
+mod TargetTests
+mod PayloadBytes
+mod Ties

@@ -1,0 +1,5 @@
+pub mod Setting
+pub mod Fitting
+pub mod MemoryVolume
+pub mod Calls
+pub mod Making
