@@ -40,6 +40,8 @@ impl fmt::Display for Report {
             ),
             3 => write!(f, "blobstore: read fault after line {lines}"),
             4 => write!(f, "blobstore: write fault after line {lines}"),
+            6 => write!(f, "blobstore: root"),
+            7 => write!(f, "blobstore: root not empty"),
             _ => write!(f, "blobstore: no memory after line {lines}"),
         }
     }

@@ -19,6 +19,8 @@ fn each_status_has_its_line(rt: HostRuntime) -> Result<(), Fail> {
         (3, true, "blobstore: read fault after line 7"),
         (4, true, "blobstore: write fault after line 7"),
         (5, true, "blobstore: no memory after line 7"),
+        (6, true, "blobstore: root"),
+        (7, true, "blobstore: root not empty"),
     ];
     for (status, is_needed, line) in table {
         let report = Report { status, lines: 7 };

@@ -151,6 +151,8 @@ ends_stopped endings.OutOfMemory source sink lines now feed after session bad p 
     ends_starved source sink lines now feed after session p same few (inl is)
 ends_stopped endings.Usage source sink lines now feed after session bad p stops keeps same is few good = absurd stops
 ends_stopped endings.WriteFault source sink lines now feed after session bad p stops keeps same is few good = absurd stops
+ends_stopped endings.RootFault source sink lines now feed after session bad p stops keeps same is few good = absurd stops
+ends_stopped endings.RootNotEmpty source sink lines now feed after session bad p stops keeps same is few good = absurd stops
 
 same_counts : (source : SourceView) (sink : SinkView) (old : RunView) (feed : FeedView) (after : SinkView) → KeepsCounts source old.feed.source sink old.sink → KeepsFeed old.feed feed
     → after ≡ old.sink → KeepsCounts source feed.source sink after
@@ -242,6 +244,8 @@ ends_line endings.OutOfMemory source sink lines old new p line keeps rises few =
 ends_line endings.Whole source sink lines old new p line keeps rises few = ends_before endings.Whole source sink lines old new p line.0 line.1 line.2 keeps few
 ends_line endings.BadLine source sink lines old new p line keeps rises few = ends_before endings.BadLine source sink lines old new p line.0 line.1 line.2 keeps few
 ends_line endings.Usage source sink lines old new p line keeps rises few = ends_before endings.Usage source sink lines old new p line.0 line.1 line.2 keeps few
+ends_line endings.RootFault source sink lines old new p line keeps rises few = ends_before endings.RootFault source sink lines old new p line.0 line.1 line.2 keeps few
+ends_line endings.RootNotEmpty source sink lines old new p line keeps rises few = ends_before endings.RootNotEmpty source sink lines old new p line.0 line.1 line.2 keeps few
 ends_line endings.ReadFault source sink lines old new p line keeps rises few = ends_before endings.ReadFault source sink lines old new p line.0 line.1 line.2 keeps few
 
 -- as many lines ran as may

@@ -1,3 +1,4 @@
+pub mod Beginning
 pub mod Progress
 pub mod Reading
 pub mod Run

@@ -1,12 +1,15 @@
 -- What a run of a script does, by how it ended.
-use Rattle.std.specs.Prelude.{ℕ, ◌≡◌, ◌-◌, ◌<◌, ◌≤◌, ◌⊎◌, Bool, true, false, not, ◌&&◌, ◌||◌, if◌then◌else◌, ◌==◌, List, [], ◌∷◌, ◌++◌, length, map, take, slice_index, Option, Some, None, IfSome, IsSome, is_some}
+use Rattle.std.specs.Prelude.{ℕ, ◌≡◌, ◌-◌, ◌<◌, ◌≤◌, ◌⊎◌, Bool, true, false, not, ◌&&◌, ◌||◌, if◌then◌else◌, List, [], ◌∷◌, ◌++◌, length, map, take, Option, Some, None, IfSome, IsSome, is_some}
 use Rattle.std.specs.List.{filter_map}
 use Rattle.disk_base.specs.Faults.{Rose}
 use Rattle.disk_base.specs.Streams.{SourceView, SinkView}
+use Rattle.disk_base.specs.Shelves.{ShelfView}
+use Rattle.disk_base.specs.Farms.{FarmView}
 use Rattle.script_lines.specs.Lines.{Line, content, cut_lines, whole_lines, is_too_long}
 use Rattle.node_runner.specs.Script.{is_passed_over, command_of, command_at, inside_behind}
 use Rattle.node_runner.specs.Session.{Turn, commands_of, IsSession, IsBrokenSession}
 use Rattle.node_runner.specs.Text.{text_of}
+use Rattle.node_runner.specs.Beginning.{are_right_words, Begins, EndsEarly}
 use Rattle.node_runner.specs.declared.command.Command.{Command}
 use Rattle.node_runner.specs.declared.ending.Ending.{Ending}
 use Rattle.node_runner.specs.declared.ending.Ending.TheVariants as endings
@@ -42,11 +45,6 @@ good_from inside (line ∷ lines) = if is_in_language inside line then line ∷ 
 -- those of a script, which begins outside; a line behind the last that it may have isn't in the language
 abbrev pub good_lines : List Line → List Line
 good_lines lines = good_from false (take most_lines lines)
-
--- the words of the program are one root, which doesn't begin with `-`
-abbrev pub are_right_words : List (List ℕ) → Bool
-are_right_words (root ∷ []) = not (slice_index root 0 == 45)
-are_right_words _ = false
 
 -- what a sink holds grew by these bytes, where it tells what it holds
 abbrev pub Gains : SinkView → List ℕ → SinkView → Type 0
@@ -139,9 +137,15 @@ pub record FailsToClose (source source' : SourceView) (sink sink' : SinkView) (s
   pub lines : EndsLines earlier source source' sink sink' session said turns
   pub cause : Rose sink.faults sink'.faults
 
--- How a run ended. Words that are wrong touch nothing; where all lines ended well, at a bad line or at a failed pull, all is handed on.
+-- nothing was begun, read or written
+abbrev pub DoesNothing : SourceView → SourceView → SinkView → SinkView → Session → List (List ℕ) → List Turn → Type 0
+DoesNothing source source' sink sink' session said turns = IsSession session turns × (said ≡ []) × (source' ≡ source) × (sink' ≡ sink)
+
+-- How a run ended. Words that are wrong and a root that isn't ready touch nothing; where all lines ended well, at a bad line or at a failed pull, all is handed on.
 abbrev pub Ends : Ending → SourceView → SourceView → SinkView → SinkView → Session → List (List ℕ) → List Turn → Type 0
-Ends endings.Usage source source' sink sink' session said turns = IsSession session turns × (said ≡ []) × (source' ≡ source) × (sink' ≡ sink)
+Ends endings.Usage source source' sink sink' session said turns = DoesNothing source source' sink sink' session said turns
+Ends endings.RootFault source source' sink sink' session said turns = DoesNothing source source' sink sink' session said turns
+Ends endings.RootNotEmpty source source' sink sink' session said turns = DoesNothing source source' sink sink' session said turns
 Ends endings.OutOfMemory source source' sink sink' session said turns = EndsLines endings.OutOfMemory source source' sink sink' session said turns
 Ends endings.WriteFault source source' sink sink' session said turns =
     EndsLines endings.WriteFault source source' sink sink' session said turns ⊎ FailsToClose source source' sink sink' session said turns
@@ -155,22 +159,23 @@ status_of endings.Usage = 2
 status_of endings.ReadFault = 3
 status_of endings.WriteFault = 4
 status_of endings.OutOfMemory = 5
+status_of endings.RootFault = 6
+status_of endings.RootNotEmpty = 7
 
-abbrev pub is_usage : Ending → Bool
-is_usage endings.Usage = true
-is_usage ending = false
-
--- A run: so many lines ran, their commands are those of turns, and by how it ended: the session that it hands out is that of these turns
--- or of one more, the sink gained their text, and the lines are the input's.
-pub record Runs (words : List (List ℕ)) (source source' : SourceView) (sink sink' : SinkView) (outcome : Outcome) : Type 0 where
+-- A run: the root was made ready, so many lines ran, their commands are those of turns, and by how it ended: the session that it hands out
+-- is that of these turns or of one more, the sink gained their text, and the lines are the input's.
+pub record Runs {S F : Type 0} (seen : S → ShelfView F) (words : List (List ℕ)) (source source' : SourceView) (sink sink' : SinkView) (farm farm' : FarmView S)
+    (outcome : Outcome) : Type 0 where
   pub said : List (List ℕ)
   pub turns : List Turn
+  pub early : Option Ending
   pub ending : Ending
   pub count : length said ≡ outcome.lines
   pub few : outcome.lines ≤ most_lines
   pub ran : Ran said turns
   pub status_is : outcome.status ≡ status_of ending
-  pub usage : is_usage ending ≡ not (are_right_words words)
+  pub begins : Begins seen (are_right_words words) farm farm' early
+  pub ends_early : EndsEarly early ending outcome.lines
   pub ends : Ends ending source source' sink sink' outcome.session said turns
   pub source_faults : source.faults ≤ source'.faults
   pub sink_faults : sink.faults ≤ sink'.faults

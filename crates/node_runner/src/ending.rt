@@ -4,6 +4,7 @@ ghost use Rattle.std.specs.Prelude.{◌≡◌};
 ghost use Rattle.node_runner.specs.Run.{status_of, is_closed};
 
 use crate::read::CommandFault;
+use disk_base::FarmFault;
 use script_lines::LineFault;
 
 /// How a run of a script ended.
@@ -21,6 +22,10 @@ pub enum Ending {
     WriteFault,
     /// The allocator had no memory left.
     OutOfMemory,
+    /// The farm failed as it was asked for the root.
+    RootFault,
+    /// The root has content.
+    RootNotEmpty,
 }
 
 impl From<LineFault> for Ending {
@@ -50,6 +55,20 @@ impl From<CommandFault> for Ending {
     }
 }
 
+impl From<FarmFault> for Ending {
+    ghost use Rattle.node_runner.specs.Beginning.{ending_of_refusal};
+
+    ghost from_gives = { λ fault ending. ending ≡ ending_of_refusal fault };
+
+    fn from(fault: FarmFault) -> Ending {
+        match fault {
+            FarmFault::NotEmpty => Ending::RootNotEmpty,
+            FarmFault::Failed => Ending::RootFault,
+            FarmFault::Memory => Ending::OutOfMemory,
+        }
+    }
+}
+
 impl Ending {
     /// The status that the program ends with.
     pub fn status(self) -> u8
@@ -62,6 +81,8 @@ impl Ending {
             Ending::ReadFault => 3,
             Ending::WriteFault => 4,
             Ending::OutOfMemory => 5,
+            Ending::RootFault => 6,
+            Ending::RootNotEmpty => 7,
         }
     }
 
@@ -71,7 +92,11 @@ impl Ending {
     {
         match self {
             Ending::Whole | Ending::BadLine | Ending::ReadFault => true,
-            Ending::Usage | Ending::WriteFault | Ending::OutOfMemory => false,
+            Ending::Usage
+            | Ending::WriteFault
+            | Ending::OutOfMemory
+            | Ending::RootFault
+            | Ending::RootNotEmpty => false,
         }
     }
 }

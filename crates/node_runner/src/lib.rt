@@ -23,6 +23,9 @@ mod reading_tests;
 mod reply;
 #[cfg(test)]
 mod reply_tests;
+mod root;
+#[cfg(test)]
+mod root_tests;
 #[cfg(test)]
 mod run_tests;
 mod script_run;

@@ -5,7 +5,7 @@ ghost use Rattle.disk_base.specs.Faults.{is_quiet, quiet_is_zero};
 
 use crate::{Outcome, run};
 use code_mode::Payload;
-use disk_base::{Failed, MemSink, MemSource, Sink, Source};
+use disk_base::{Failed, MemFarm, MemSink, MemSource, Sink, Source};
 use std::alloc::{AllocError, Global};
 use std::cell::Cell;
 use std::test::Fail;
@@ -110,7 +110,8 @@ fn ran(alloc: Global, given: &Given<'_>) -> Result<CameTo, Fail> {
     let mut source = source(alloc, given)?;
     let mut sink = sink(alloc, given)?;
     let words = words(alloc, &["root"])?;
-    let outcome = run(alloc, &words, &mut source, &mut sink);
+    let mut farm = MemFarm::new(alloc, Vec::new(alloc));
+    let outcome = run(alloc, &words, &mut source, &mut sink, &mut farm);
     Ok(CameTo {
         numbers: numbers(&outcome),
         sink: sink.sink,
@@ -234,7 +235,8 @@ fn ran_with(alloc: Global, own: &[&str]) -> Result<(u8, u64, usize, usize), Fail
     let words = words(alloc, own)?;
     let mut source = MemSource::new(alloc, Vec::new(alloc), Vec::new(alloc));
     let mut sink = MemSink::new(alloc, 8, Vec::new(alloc))?;
-    let outcome = run(alloc, &words, &mut source, &mut sink);
+    let mut farm = MemFarm::new(alloc, Vec::new(alloc));
+    let outcome = run(alloc, &words, &mut source, &mut sink, &mut farm);
     Ok(numbers(&outcome))
 }
 
@@ -412,7 +414,8 @@ fn ran_one_by_one(alloc: Global) -> Result<((u8, u64, usize, usize), usize, bool
     };
     let mut sink = Counted { pushes: &pushes };
     let words = words(alloc, &["root"])?;
-    let outcome = run(alloc, &words, &mut source, &mut sink);
+    let mut farm = MemFarm::new(alloc, Vec::new(alloc));
+    let outcome = run(alloc, &words, &mut source, &mut sink, &mut farm);
     Ok((numbers(&outcome), source.pulls, source.is_ahead))
 }
 

@@ -1,26 +1,22 @@
-use Rattle.std.proofs.Common.{◌≡◌, ◌∙◌, refl, true, false, rules, map}
+use Rattle.std.proofs.Common.{map}
 use Rattle.std.specs.String.{string_bytes}
-use Rattle.node_runner.specs.Run.{are_right_words}
 use Rattle.node_runner.proofs.SessionLaws.{shows_what_was_put}
-use Rattle.node_runner.proofs.RunEnds.{runs_closed, runs_nothing}
+use Rattle.node_runner.proofs.RunEnds.{runs_closed, runs_unread}
 use Rattle.node_runner.proofs.script_run.run.Goals as goal
 
-pub returns-then-not-are_right_words-clause-runs : goal.returns-then-not-are_right_words-clause-runs
-returns-then-not-are_right_words-clause-runs g c =
-    let wrong : are_right_words (map string_bytes c.args.words.now) ≡ false = search rules in
-    runs_nothing (map string_bytes c.args.words.now) (g.S.Source.seen c.args.source.now) (g.K.Sink.seen c.args.sink.now) _ wrong c.status.ensures refl
-    (c.into_session.ensures ∙ rw (c.make.ensures.0, c.make.ensures.1) refl)
+pub returns-in-Err-clause-runs : goal.returns-in-Err-clause-runs
+returns-in-Err-clause-runs g c = runs_unread g.F.Disk.Shelf.seen (map string_bytes c.args.words.now) (g.S.Source.seen c.args.source.now) (g.K.Sink.seen c.args.sink.now)
+    (g.F.Farm.seen c.args.farm.now) (g.F.Farm.seen c.begin.new.farm) c.in-Err.ending _ c.in-Err.ensures.begins c.unread.ensures.0 c.unread.ensures.1 c.unread.ensures.2
 
-pub returns-then-not-are_right_words-clause-integrity : goal.returns-then-not-are_right_words-clause-integrity
-returns-then-not-are_right_words-clause-integrity g c = shows_what_was_put
+pub returns-in-Err-clause-integrity : goal.returns-in-Err-clause-integrity
+returns-in-Err-clause-integrity g c = shows_what_was_put
 
 pub returns-clause-runs : goal.returns-clause-runs
 returns-clause-runs g c =
-    let right : are_right_words (map string_bytes c.args.words.now) ≡ true = search rules in
-    runs_closed (map string_bytes c.args.words.now) (g.S.Source.seen c.args.source.now) (g.S.Source.seen c.run_lines-session.new.source)
+    runs_closed g.F.Disk.Shelf.seen (map string_bytes c.args.words.now) (g.S.Source.seen c.args.source.now) (g.S.Source.seen c.run_lines-session.new.source)
     (g.K.Sink.seen c.args.sink.now) (g.K.Sink.seen c.run_lines-session.new.sink) (g.K.Sink.seen c.close-ending.new.sink)
-    c.run_lines-session.result.0.ending c.close-ending.result _ right
-    c.run_lines-session.ensures c.close-ending.ensures.ends c.close-ending.ensures.count c.status-2.ensures
+    (g.F.Farm.seen c.args.farm.now) (g.F.Farm.seen c.begin.new.farm) c.run_lines-session.result.0.ending c.close-ending.result _ c.in-Ok.ensures.begins
+    c.run_lines-session.ensures c.close-ending.ensures.ends c.close-ending.ensures.late c.close-ending.ensures.count c.status.ensures
 
 pub returns-clause-integrity : goal.returns-clause-integrity
 returns-clause-integrity g c = shows_what_was_put
