@@ -126,6 +126,36 @@ fn least_time<R: Clock>(
     Ok(least)
 }
 
+/// The least time in which the parity of a set is made, whose shards have so many bytes.
+pub fn encode_time<R: Clock>(
+    rt: &R,
+    alloc: Global,
+    n: usize,
+    m: usize,
+    size: usize,
+    rounds: u32,
+) -> Result<Duration>
+    requires { (0 < n) × (n + m ≤ 256) }
+{
+    let full = full_set(alloc, n, m, size)?;
+    least_time(rt, alloc, &full, n, m, Job::Encode, true, rounds)
+}
+
+/// The least time in which a shard of such a set is rebuilt.
+pub fn rebuild_time<R: Clock>(
+    rt: &R,
+    alloc: Global,
+    n: usize,
+    m: usize,
+    size: usize,
+    rounds: u32,
+) -> Result<Duration>
+    requires { (0 < n) × (n + m ≤ 256) }
+{
+    let full = full_set(alloc, n, m, size)?;
+    least_time(rt, alloc, &full, n, m, Job::RebuildOne, true, rounds)
+}
+
 /// Prints the least time of a call for each job of a shape, with ready rows and without.
 fn print_shape<R: Clock + Print>(
     rt: &R,

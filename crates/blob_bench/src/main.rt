@@ -5,7 +5,9 @@
 //! only the sums are printed, which are the same on every machine. Measures: `crc`, `copy`, `chunk`,
 //! `chunk-start`, `turn`, for which SIZE is the turns of each thread and ROUNDS the number of threads, and
 //! `admin` and `admin-at`, for which SIZE is the number of names, and `code`, which prints the least
-//! nanoseconds of ROUNDS calls over shards of SIZE bytes for each job.
+//! nanoseconds of ROUNDS calls over shards of SIZE bytes for each job. `world` puts ROUNDS blobs of SIZE bytes into a volume
+//! of EC6P3 over files in memory, `world-widest` into one of EC15P12, and `task` moves units of a volume of EC6P3; all print
+//! the parts of their time.
 #![tactic(auto)]
 
 mod code;
@@ -13,8 +15,10 @@ mod data;
 mod measure;
 mod names;
 mod turns;
+mod worlds;
 
 use anyhow::{Context, Result, bail};
+use code_mode::Mode;
 use measure::Measure;
 use std::alloc::Global;
 use std::env;
@@ -32,8 +36,16 @@ fn main(rt: HostRuntime) -> Result<()> {
     };
     let size = size.as_str().parse().context("SIZE is a number")?;
     let rounds = rounds.as_str().parse().context("ROUNDS is a number")?;
-    if name.as_str() == "code" {
-        return code::print_speeds(&rt, rt.alloc(), size, rounds);
+    match name.as_str() {
+        "code" => return code::print_speeds(&rt, rt.alloc(), size, rounds),
+        "world" => {
+            return worlds::print_puts(&rt, rt.alloc(), Mode::Ec6P3, 6, 3, size, rounds);
+        }
+        "world-widest" => {
+            return worlds::print_puts(&rt, rt.alloc(), Mode::Ec15P12, 15, 12, size, rounds);
+        }
+        "task" => return worlds::print_moves(&rt, rt.alloc(), size, rounds),
+        _ => {}
     }
     let measure = Measure::read_name(name.as_str()).context("no such measure")?;
     print_speed(&rt, rt.alloc(), measure, size, rounds)
@@ -47,6 +59,7 @@ fn print_sums<R: Threads + Wait + Sync + Clock + Print>(rt: &R, alloc: Global) -
         println!(rt; "{} {:016x}", measure.name(), outcome.sum)?;
     }
     println!(rt; "code {:016x}", code::sum_of_set(alloc, 1_000)?)?;
+    println!(rt; "world {:016x}", worlds::sum_of_volume(alloc, 1_000)?)?;
     Ok(())
 }
 

@@ -163,7 +163,7 @@ fn time_turns<R: Threads + Wait + Sync + Clock>(
 }
 
 /// Sums up the CRCs of the bytes, whose first is another one in each round.
-fn sum_of_crcs(bytes: &mut [u8], rounds: u32) -> u64 {
+pub fn sum_of_crcs(bytes: &mut [u8], rounds: u32) -> u64 {
     let mut sum: u64 = 0;
     for round in 0..rounds {
         if let Some(first) = bytes.first_mut() {
@@ -175,7 +175,7 @@ fn sum_of_crcs(bytes: &mut [u8], rounds: u32) -> u64 {
 }
 
 /// The same over a copy of the bytes in each round.
-fn sum_of_copies(alloc: Global, bytes: &mut [u8], rounds: u32) -> Result<u64> {
+pub fn sum_of_copies(alloc: Global, bytes: &mut [u8], rounds: u32) -> Result<u64> {
     let mut sum: u64 = 0;
     for round in 0..rounds {
         if let Some(first) = bytes.first_mut() {
