@@ -94,11 +94,12 @@ impl<H: Shelf> World<H> {
         self.parts.entries()
     }
 
-    /// The stations by disk, the file of the manager's log, and the history.
+    /// The stations by disk, the file of the manager's log, and the history. What always held of the world holds of these.
     pub fn into_parts(self) -> (Vec<Station<H>>, H::File, Vec<Trace>)
         ensures stations { result.0.items ≡ self.stations }
         ensures file { result.1 ≡ self.entry.book.log.file }
         ensures history { result.2.items ≡ self.history.entries }
+        ensures world { IsWorld H.seen H.File.seen self }
     {
         self.parts.into_parts()
     }
