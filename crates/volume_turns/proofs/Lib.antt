@@ -1,0 +1,6 @@
+mod PutTurns
+mod CallCauses
+mod FaultTurns
+pub mod Sessions
+mod ObjectProofs
+mod GotTurns
