@@ -1,0 +1,12 @@
+pub mod Shown
+pub mod Listings
+pub mod UnitAnswers
+pub mod ManagerSteps
+pub mod EventSteps
+pub mod SendSteps
+pub mod UnheardReplies
+pub mod ToldReplies
+pub mod StepProofs
+pub mod PlainStates
+pub mod StretchProofs
+pub mod OpenProofs
