@@ -6,8 +6,9 @@
 //! `chunk-start`, `turn`, for which SIZE is the turns of each thread and ROUNDS the number of threads, and
 //! `admin` and `admin-at`, for which SIZE is the number of names, and `code`, which prints the least
 //! nanoseconds of ROUNDS calls over shards of SIZE bytes for each job. `world` puts ROUNDS blobs of SIZE bytes into a volume
-//! of EC6P3 over files in memory, `world-widest` into one of EC15P12, and `task` moves units of a volume of EC6P3; all print
-//! the parts of their time.
+//! of EC6P3 over files in memory, `world-widest` into one of EC15P12; `put` does so in EC6P3 and EC12P4, and `get` puts such
+//! blobs and gets them, with all disks and with one broken; `task` moves units of a volume of EC6P3. All of these print the
+//! parts of their time.
 #![tactic(auto)]
 
 mod code;
@@ -39,16 +40,39 @@ fn main(rt: HostRuntime) -> Result<()> {
     match name.as_str() {
         "code" => return code::print_speeds(&rt, rt.alloc(), size, rounds),
         "world" => {
-            return worlds::print_puts(&rt, rt.alloc(), Mode::Ec6P3, 6, 3, size, rounds);
+            return worlds::print_puts(&rt, rt.alloc(), "world", Mode::Ec6P3, 6, 3, size, rounds);
         }
         "world-widest" => {
-            return worlds::print_puts(&rt, rt.alloc(), Mode::Ec15P12, 15, 12, size, rounds);
+            return worlds::print_puts(
+                &rt,
+                rt.alloc(),
+                "world",
+                Mode::Ec15P12,
+                15,
+                12,
+                size,
+                rounds,
+            );
         }
+        "put" => return print_puts(&rt, rt.alloc(), size, rounds),
+        "get" => return print_gets(&rt, rt.alloc(), size, rounds),
         "task" => return worlds::print_moves(&rt, rt.alloc(), size, rounds),
         _ => {}
     }
     let measure = Measure::read_name(name.as_str()).context("no such measure")?;
     print_speed(&rt, rt.alloc(), measure, size, rounds)
+}
+
+/// Prints what puts into volumes of two modes take.
+fn print_puts<R: Clock + Print>(rt: &R, alloc: Global, size: usize, blobs: u32) -> Result<()> {
+    worlds::print_puts(rt, alloc, "put EC6P3", Mode::Ec6P3, 6, 3, size, blobs)?;
+    worlds::print_puts(rt, alloc, "put EC12P4", Mode::Ec12P4, 12, 4, size, blobs)
+}
+
+/// Prints what gets from volumes of two modes take.
+fn print_gets<R: Clock + Print>(rt: &R, alloc: Global, size: usize, blobs: u32) -> Result<()> {
+    worlds::print_gets(rt, alloc, "get EC6P3", Mode::Ec6P3, 6, 3, size, blobs)?;
+    worlds::print_gets(rt, alloc, "get EC12P4", Mode::Ec12P4, 12, 4, size, blobs)
 }
 
 /// Prints the sum of each measure over the set size.

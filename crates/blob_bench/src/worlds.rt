@@ -103,6 +103,7 @@ fn a_second(count: u64, taken: Duration) -> u128 {
 pub fn print_puts<R: Clock + Print>(
     rt: &R,
     alloc: Global,
+    name: &str,
     mode: Mode,
     n: usize,
     m: usize,
@@ -117,20 +118,114 @@ pub fn print_puts<R: Clock + Print>(
     let taken = start.elapsed(rt)?;
     let speed = a_second(u64::from(blobs), taken);
     println!(rt;
-        "world {} ns {entries} entries {speed} puts a second",
+        "{name} {} ns {entries} entries {speed} puts a second",
         taken.as_nanos()
     )?;
     let mut shard = data::made(alloc, mode.shard_size(blob.len() as u32) as usize)?;
     print_parts(
         rt,
         alloc,
-        "world",
+        name,
         &mut shard,
         blobs.saturating_mul(mode.total()),
     )?;
     let code = encode_time(rt, alloc, n, m, shard.len(), blobs)?;
     println!(rt;
-        "world code {} ns",
+        "{name} code {} ns",
+        code.as_nanos().saturating_mul(u128::from(blobs))
+    )?;
+    Ok(())
+}
+
+/// How many bytes a blob has that is got.
+fn len_of(volume: &mut MemoryVolume, bid: u64, size: u32) -> Result<u64> {
+    match volume.get(bid, size) {
+        Some(Ok(bytes)) => Ok(bytes.len() as u64),
+        _ => bail!("a blob isn't got"),
+    }
+}
+
+/// How many bytes so many blobs have that are got.
+fn len_of_all(volume: &mut MemoryVolume, size: u32, blobs: u32) -> Result<u64> {
+    let mut bytes: u64 = 0;
+    for bid in 0..blobs {
+        bytes = bytes.wrapping_add(len_of(volume, u64::from(bid) + 1, size)?);
+    }
+    Ok(bytes)
+}
+
+/// Prints how long it takes to get so many blobs.
+fn print_got<R: Clock + Print>(
+    rt: &R,
+    name: &str,
+    how: &str,
+    volume: &mut MemoryVolume,
+    size: u32,
+    blobs: u32,
+) -> Result<()> {
+    let start = Instant::now(rt)?;
+    let bytes = len_of_all(volume, size, blobs)?;
+    let taken = start.elapsed(rt)?;
+    let speed = a_second(u64::from(blobs), taken);
+    println!(rt;
+        "{name} {how} {} ns {bytes} bytes {speed} gets a second",
+        taken.as_nanos()
+    )?;
+    Ok(())
+}
+
+/// Gets blobs that were put, before and behind the end of a disk.
+fn get_twice<R: Clock + Print>(
+    rt: &R,
+    alloc: Global,
+    name: &str,
+    volume: &mut MemoryVolume,
+    blob: &[u8],
+    size: u32,
+    blobs: u32,
+) -> Result<()> {
+    fill(alloc, volume, blob, blobs)?;
+    print_got(rt, name, "whole", volume, size, blobs)?;
+    ask(volume, Event::Break { disk: 1 })?;
+    print_got(rt, name, "rebuilt", volume, size, blobs)
+}
+
+fn put_and_get_twice<R: Clock + Print>(
+    rt: &R,
+    alloc: Global,
+    name: &str,
+    mode: Mode,
+    blob: &[u8],
+    size: u32,
+    blobs: u32,
+) -> Result<()> {
+    let mut volume = empty(alloc, mode)?;
+    get_twice(rt, alloc, name, &mut volume, blob, size, blobs)
+}
+
+/// Prints how long it took to get so many blobs of so many bytes from a volume of a mode with `n` data and `m` parity shards,
+/// with all disks and then with a data shard of each that is rebuilt; and how long the sums, the copies and the code of the
+/// shards that are read take alone.
+pub fn print_gets<R: Clock + Print>(
+    rt: &R,
+    alloc: Global,
+    name: &str,
+    mode: Mode,
+    n: usize,
+    m: usize,
+    size: usize,
+    blobs: u32,
+) -> Result<()>
+    requires { (0 < n) × (n + m ≤ 256) }
+{
+    let blob = made_blob(alloc, size)?;
+    let size = blob.len() as u32;
+    put_and_get_twice(rt, alloc, name, mode, &blob, size, blobs)?;
+    let mut shard = data::made(alloc, mode.shard_size(size) as usize)?;
+    print_parts(rt, alloc, name, &mut shard, blobs.saturating_mul(mode.n()))?;
+    let code = rebuild_time(rt, alloc, n, m, shard.len(), blobs)?;
+    println!(rt;
+        "{name} code {} ns",
         code.as_nanos().saturating_mul(u128::from(blobs))
     )?;
     Ok(())
