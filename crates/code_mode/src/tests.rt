@@ -1,101 +1,230 @@
+//! Modes, payloads and stripes, against worked values.
+//!
+//! A helper gives the first row of its table that isn't met, or tells whether one row is.
+
 use super::*;
-use std::alloc::Global;
-use std::process::Abort;
+use disk_base::NoMemory;
+use rs_code::Shards;
+use std::alloc::{AllocError, Global};
 use std::test::Fail;
 use unit_id::Bytes;
 
-#[test]
-fn modes_have_the_numbers_of_their_names(rt: HostRuntime) -> Result<(), Fail> {
-    let rows = [
-        ("EC3P3", 3, 3, 6, 5, 4),
-        ("EC6P3", 6, 3, 9, 8, 7),
-        ("EC6P6", 6, 6, 12, 11, 7),
-        ("EC10P4", 10, 4, 14, 13, 11),
-        ("EC12P4", 12, 4, 16, 15, 13),
-        ("EC12P9", 12, 9, 21, 20, 13),
-        ("EC16P4", 16, 4, 20, 19, 17),
-        ("EC15P12", 15, 12, 27, 24, 18),
-    ];
-    for (name, n, m, total, quorum, sight) in rows {
-        let mode = Mode::read_name(name).ok_or("no such mode")?;
-        assert_eq!(rt; mode.name(), name);
-        assert_eq!(rt; (mode.n(), mode.m(), mode.total()), (n, m, total), "{name}");
-        assert_eq!(rt; (mode.quorum(), mode.sight()), (quorum, sight), "{name}");
-        assert_eq!(rt; mode.shard_size(2048 * n), 2048, "{name}");
-        assert_eq!(rt; mode.shard_size(2048 * n + 1), 2049, "{name}");
-        assert_eq!(rt; mode.shard_size(1), 2048, "{name}");
+/// The modes by name, each with its N, M, total, quorum and sight.
+fn modes() -> [(&'static str, [u32; 5]); 8] {
+    [
+        ("EC3P3", [3, 3, 6, 5, 4]),
+        ("EC6P3", [6, 3, 9, 8, 7]),
+        ("EC6P6", [6, 6, 12, 11, 7]),
+        ("EC10P4", [10, 4, 14, 13, 11]),
+        ("EC12P4", [12, 4, 16, 15, 13]),
+        ("EC12P9", [12, 9, 21, 20, 13]),
+        ("EC16P4", [16, 4, 20, 19, 17]),
+        ("EC15P12", [15, 12, 27, 24, 18]),
+    ]
+}
+
+/// The numbers of a mode.
+fn numbers(mode: Mode) -> [u32; 5] {
+    [
+        mode.n(),
+        mode.m(),
+        mode.total(),
+        mode.quorum(),
+        mode.sight(),
+    ]
+}
+
+/// The sizes of a mode's shards for blobs of 1 byte, of this many bytes, and of one more.
+fn sizes(mode: Mode, size: u32) -> [u32; 3] {
+    [
+        mode.shard_size(1),
+        mode.shard_size(size),
+        mode.shard_size(size.saturating_add(1)),
+    ]
+}
+
+/// Whether a mode has this name and these numbers, and shards of 2,048 bytes at least.
+fn has(mode: Mode, name: &str, want: [u32; 5]) -> bool {
+    mode.name() == name
+        && numbers(mode) == want
+        && sizes(mode, want[0].saturating_mul(2048)) == [2048, 2048, 2049]
+}
+
+/// Whether this name is read as the mode with these numbers.
+fn names(name: &str, want: [u32; 5]) -> bool {
+    match Mode::read_name(name) {
+        Some(mode) => has(mode, name, want),
+        None => false,
     }
+}
+
+/// The first name that isn't read as its mode.
+fn misread() -> Option<&'static str> {
+    for (name, want) in modes() {
+        if !names(name, want) {
+            return Some(name);
+        }
+    }
+    None
+}
+
+/// The first name that is read, though no mode has it.
+fn read_as_a_mode() -> Option<&'static str> {
     for name in ["", "EC6P", "ec6p3", "EC6P33", " EC6P3"] {
-        assert_eq!(rt; Mode::read_name(name), None, "{name}");
+        if Mode::read_name(name).is_some() {
+            return Some(name);
+        }
     }
-    mode_numbers();
-    Ok(())
+    None
 }
 
 #[test]
-fn payloads_give_their_bytes(rt: HostRuntime) -> Result<(), Fail> {
-    let rows: [(u64, &[u8]); 4] = [
-        (0, &[0x14]),
-        (1, &[0x6c]),
+fn modes_have_the_numbers_of_their_names(rt: HostRuntime) {
+    assert_eq!(rt; misread(), None);
+    assert_eq!(rt; read_as_a_mode(), None);
+    mode_numbers();
+}
+
+/// Seeds, how many fill bytes are wanted of each, and these bytes.
+fn fills() -> [(u64, u32, &'static [u8]); 4] {
+    [
+        (0, 1, b"\x14"),
+        (1, 1, b"\x6c"),
         (
             7,
+            16,
             b"\x7e\xf4\xe8\x45\x44\x23\x67\x52\xfb\xb5\x6b\x8f\x31\xa2\x3a\x10",
         ),
         (
             u64::MAX,
+            16,
             b"\xbb\xb1\x8f\x6b\xf8\x9f\x9a\xa5\x20\xb1\x85\x31\x50\xe0\x95\xa5",
         ),
-    ];
-    for (seed, want) in rows {
-        let fill = Payload::Fill {
-            seed,
-            len: want.len() as u32,
-        };
-        assert_eq!(rt; fill.len() as usize, want.len());
-        let bytes = fill.bytes(rt.alloc())?;
-        assert_eq!(rt; bytes.as_slice(), want, "from {seed}");
-    }
-    let hello = Payload::Plain(Bytes::from_vec(b"hello".to_vec(rt.alloc())?));
-    assert_eq!(rt; (hello.len(), hello.at(4)), (5, b'o'));
-    assert_eq!(rt; hello.bytes(rt.alloc())?.as_slice(), b"hello".as_slice());
-    let blob = Payload::Fill {
-        seed: 3,
-        len: 4_194_304,
-    }
-    .bytes(rt.alloc())?;
-    let mut sum = 0u32;
-    for byte in blob.as_slice() {
-        sum = sum.wrapping_add(u32::from(*byte));
-    }
-    assert_eq!(rt; sum, 534_952_079);
-    Ok(())
+    ]
 }
 
-/// The blob of `size` fill bytes is cut into shards of `shard` bytes, and joined again.
-fn round_trip(
-    rt: &impl Abort,
-    alloc: Global,
-    mode: Mode,
-    size: u32,
-    shard: usize,
-) -> Result<(), Fail> {
-    let payload = Payload::Fill { seed: 5, len: size };
-    let blob = payload.bytes(alloc)?;
-    assert!(rt; blob.len() == size as usize && blob.len() <= 4_194_304);
-    let shards = cut(alloc, mode, blob.as_slice())?;
-    assert_eq!(rt; shards.count(), mode.n() as usize);
-    for index in 0..mode.total() as usize {
-        let length = shards.get(index).map(|bytes| bytes.len());
-        assert_eq!(rt; length, (index < mode.n() as usize).then_some(shard));
+/// Whether a payload gives these bytes.
+fn gives(alloc: Global, payload: &Payload, want: &[u8]) -> bool {
+    match payload.bytes(alloc) {
+        Ok(bytes) => bytes.as_slice() == want,
+        Err(_) => false,
     }
-    let joined = join(alloc, mode, blob.len() as u32, &shards)?;
-    assert_eq!(rt; joined.as_slice(), blob.as_slice());
-    Ok(())
+}
+
+/// Whether so many bytes of this seed are these.
+fn fills_with(alloc: Global, seed: u64, len: u32, want: &[u8]) -> bool {
+    let fill = Payload::Fill { seed, len };
+    gives(alloc, &fill, want)
+}
+
+/// How many bytes the fills of these seeds say that they have.
+fn fill_lengths() -> [u32; 4] {
+    [
+        Payload::Fill { seed: 0, len: 1 }.len(),
+        Payload::Fill { seed: 1, len: 1 }.len(),
+        Payload::Fill { seed: 7, len: 16 }.len(),
+        Payload::Fill {
+            seed: u64::MAX,
+            len: 16,
+        }
+        .len(),
+    ]
+}
+
+/// The first seed whose bytes are others.
+fn misfilled(alloc: Global) -> Option<u64> {
+    for (seed, len, want) in fills() {
+        if !fills_with(alloc, seed, len, want) {
+            return Some(seed);
+        }
+    }
+    None
+}
+
+/// Whether the word `hello`, written out, has five bytes and ends with an `o`.
+fn is_hello(alloc: Global) -> Result<bool, AllocError> {
+    let hello = Payload::Plain(Bytes::from_vec(b"hello".to_vec(alloc)?));
+    Ok(hello.len() == 5 && hello.at(4) == b'o' && gives(alloc, &hello, b"hello"))
+}
+
+/// The sum of these bytes.
+fn sum(bytes: &[u8]) -> u32 {
+    let mut sum = 0u32;
+    for byte in bytes {
+        sum = sum.wrapping_add(u32::from(*byte));
+    }
+    sum
+}
+
+/// The sum of the largest blob of seed 3, or 0 without memory.
+fn large_sum(alloc: Global) -> u32 {
+    let fill = Payload::Fill {
+        seed: 3,
+        len: 4_194_304,
+    };
+    match fill.bytes(alloc) {
+        Ok(bytes) => sum(bytes.as_slice()),
+        Err(_) => 0,
+    }
 }
 
 #[test]
-fn blobs_are_cut_and_joined(rt: HostRuntime) -> Result<(), Fail> {
-    let modes = [
+fn payloads_give_their_bytes(rt: HostRuntime) -> Result<(), Fail> {
+    assert_eq!(rt; misfilled(rt.alloc()), None);
+    assert!(rt; fill_lengths() == [1, 1, 16, 16]);
+    assert!(rt; is_hello(rt.alloc())?);
+    assert_eq!(rt; large_sum(rt.alloc()), 534_952_079);
+    Ok(())
+}
+
+/// Whether a place has a shard of so many bytes where it is one of the first N, and else none.
+fn is_cut(shards: &Shards, index: usize, n: usize, shard: usize) -> bool {
+    match shards.get(index) {
+        Some(bytes) => index < n && bytes.len() == shard,
+        None => index >= n,
+    }
+}
+
+/// Whether a blob was cut into N shards of so many bytes, and no others.
+fn are_cut(mode: Mode, shards: &Shards, shard: usize) -> bool {
+    let n = mode.n() as usize;
+    for index in 0..mode.total() as usize {
+        if !is_cut(shards, index, n, shard) {
+            return false;
+        }
+    }
+    shards.count() == n
+}
+
+/// Whether a blob is cut into shards of so many bytes, and joined again.
+fn is_joined(alloc: Global, mode: Mode, blob: &[u8], shard: usize) -> Result<bool, NoMemory> {
+    if blob.len() > 4_194_304 {
+        return Ok(false);
+    }
+    let shards = cut(alloc, mode, blob)?;
+    let joined = join(alloc, mode, blob.len() as u32, &shards)?;
+    Ok(are_cut(mode, &shards, shard) && joined.as_slice() == blob)
+}
+
+/// Whether a blob of so many fill bytes is cut into shards of so many, and joined again.
+fn is_round(alloc: Global, mode: Mode, size: u32, shard: usize) -> Result<bool, NoMemory> {
+    let blob = Payload::Fill { seed: 5, len: size }.bytes(alloc)?;
+    Ok(blob.len() == size as usize && is_joined(alloc, mode, blob.as_slice(), shard)?)
+}
+
+/// Whether blobs of 1 byte, of N times 2,048 and of one more are cut and joined.
+fn are_round(alloc: Global, mode: Mode, n: u32) -> Result<bool, NoMemory> {
+    let whole = n.saturating_mul(2048);
+    Ok(
+        is_round(alloc, mode, 1, 2048)?
+            && is_round(alloc, mode, whole, 2048)?
+            && is_round(alloc, mode, whole.saturating_add(1), 2049)?,
+    )
+}
+
+/// The modes, each with its N.
+fn data_counts() -> [(Mode, u32); 8] {
+    [
         (Mode::Ec3P3, 3),
         (Mode::Ec6P3, 6),
         (Mode::Ec6P6, 6),
@@ -104,24 +233,63 @@ fn blobs_are_cut_and_joined(rt: HostRuntime) -> Result<(), Fail> {
         (Mode::Ec12P9, 12),
         (Mode::Ec16P4, 16),
         (Mode::Ec15P12, 15),
-    ];
-    for (mode, n) in modes {
-        for (size, shard) in [(1, 2048), (n * 2048, 2048), (n * 2048 + 1, 2049)] {
-            round_trip(&rt, rt.alloc(), mode, size, shard)?;
+    ]
+}
+
+/// The first mode whose blobs aren't cut and joined.
+fn miscut(alloc: Global) -> Result<Option<Mode>, NoMemory> {
+    for (mode, n) in data_counts() {
+        if !are_round(alloc, mode, n)? {
+            return Ok(Some(mode));
         }
     }
-    round_trip(&rt, rt.alloc(), Mode::Ec6P3, 12_288, 2048)?;
-    round_trip(&rt, rt.alloc(), Mode::Ec12P4, 4_194_304, 349_526)?;
+    Ok(None)
+}
 
-    let shards = cut(rt.alloc(), Mode::Ec6P3, b"hello")?;
-    let mut first = [0u8; 2048];
-    first[..5].copy_from_slice(b"hello");
-    assert_eq!(rt; shards.get(0), Some(first.as_slice()));
-    for index in 1..6 {
-        assert_eq!(rt; shards.get(index), Some([0u8; 2048].as_slice()));
+/// Whether this byte stands at a place of a text that zeros follow.
+fn stands(text: &[u8], place: usize, byte: u8) -> bool {
+    match text.get(place) {
+        Some(want) => byte == *want,
+        None => byte == 0,
     }
-    let hello = join(rt.alloc(), Mode::Ec6P3, 5, &shards)?;
-    assert_eq!(rt; hello.as_slice(), b"hello".as_slice());
+}
+
+/// Whether a shard has 2,048 bytes: a text, and zeros behind it.
+fn is_padded(shard: Option<&[u8]>, text: &[u8]) -> bool {
+    let Some(bytes) = shard else {
+        return false;
+    };
+    for (place, byte) in bytes.iter().enumerate() {
+        if !stands(text, place, *byte) {
+            return false;
+        }
+    }
+    bytes.len() == 2048
+}
+
+/// Whether the first of six shards holds the word `hello`, and the others zeros.
+fn hold_hello(shards: &Shards) -> bool {
+    for index in 1..6 {
+        if !is_padded(shards.get(index), b"") {
+            return false;
+        }
+    }
+    is_padded(shards.get(0), b"hello")
+}
+
+/// Whether the word `hello` is cut into such shards, and joined again.
+fn is_hello_cut(alloc: Global) -> Result<bool, NoMemory> {
+    let shards = cut(alloc, Mode::Ec6P3, b"hello")?;
+    Ok(hold_hello(&shards) && is_joined(alloc, Mode::Ec6P3, b"hello", 2048)?)
+}
+
+#[test]
+fn blobs_are_cut_and_joined(rt: HostRuntime) -> Result<(), Fail> {
+    let alloc = rt.alloc();
+    assert_eq!(rt; miscut(alloc)?, None);
+    assert!(rt; is_round(alloc, Mode::Ec6P3, 12_288, 2048)?);
+    assert!(rt; is_round(alloc, Mode::Ec12P4, 4_194_304, 349_526)?);
+    assert!(rt; is_hello_cut(alloc)?);
     cut_shards_join();
     any_shards_give_the_blob();
     Ok(())

@@ -4,111 +4,105 @@ use crate::{
     Body, Command, LineReply, Lost, Past, Pasts, Refusal, Said, Saids, Spot, Spots,
     commands_decide_the_session, get_shows_what_was_put, print_reply, put_enters_a_new_name,
 };
-use std::alloc::Global;
+use std::alloc::{AllocError, Global};
 use std::test::Fail;
 use unit_id::Bytes;
 
 /// A byte string of this text.
-fn bytes(alloc: Global, text: &str) -> Result<Bytes, Fail> {
-    Ok(Bytes::from_vec(Vec::from_slice(alloc, text.as_bytes())?))
-}
-
-/// What was got under the name `n`.
-fn got(alloc: Global) -> Result<LineReply, Fail> {
-    Ok(LineReply::Got {
-        name: bytes(alloc, "n")?,
-        bytes: bytes(alloc, "\n~")?,
-    })
-}
-
-/// A put of nothing that was refused.
-fn refused(alloc: Global) -> Result<LineReply, Fail> {
-    Ok(LineReply::Refused {
-        command: Command::Put {
-            name: bytes(alloc, "n")?,
-            body: Body::Fill { seed: 1, len: 0 },
-        },
-        cause: Refusal::Empty,
-    })
-}
-
-/// A put with the greatest numbers.
-fn put(alloc: Global) -> Result<LineReply, Fail> {
-    Ok(LineReply::Put {
-        name: bytes(alloc, "n")?,
-        vid: 4_294_967_295,
-        bid: 18_446_744_073_709_551_615,
-        size: 0,
-    })
+fn bytes(alloc: Global, text: &[u8]) -> Result<Bytes, AllocError> {
+    Ok(Bytes::from_vec(text.to_vec(alloc)?))
 }
 
 /// Whether a reply is printed so.
-fn prints(alloc: Global, reply: &LineReply, text: &str) -> Result<bool, Fail> {
-    Ok(print_reply(alloc, reply)?.as_slice() == text.as_bytes())
+fn prints(alloc: Global, reply: &LineReply, text: &[u8]) -> bool {
+    match print_reply(alloc, reply) {
+        Ok(line) => line.as_slice() == text,
+        Err(_) => false,
+    }
+}
+
+/// Whether two bytes that were got under the name `n` are printed.
+fn got_is_printed(alloc: Global) -> Result<bool, AllocError> {
+    let name = bytes(alloc, b"n")?;
+    let bytes = bytes(alloc, b"\n~")?;
+    let reply = LineReply::Got { name, bytes };
+    Ok(prints(alloc, &reply, b"got n 0a7e\n"))
+}
+
+/// Whether a put of nothing that was refused is printed.
+fn refused_is_printed(alloc: Global) -> Result<bool, AllocError> {
+    let name = bytes(alloc, b"n")?;
+    let body = Body::Fill { seed: 1, len: 0 };
+    let reply = LineReply::Refused {
+        command: Command::Put { name, body },
+        cause: Refusal::Empty,
+    };
+    Ok(prints(alloc, &reply, b"refused put n empty\n"))
+}
+
+/// Whether a put with the greatest numbers is printed.
+fn put_is_printed(alloc: Global) -> Result<bool, AllocError> {
+    let name = bytes(alloc, b"n")?;
+    let reply = LineReply::Put {
+        name,
+        vid: 4_294_967_295,
+        bid: 18_446_744_073_709_551_615,
+        size: 0,
+    };
+    let text = b"put n vid 4294967295 bid 18446744073709551615 size 0\n";
+    Ok(prints(alloc, &reply, text))
 }
 
 #[test]
-fn bytes_that_were_got_are_printed(rt: HostRuntime) -> Result<(), Fail> {
-    let reply = got(rt.alloc())?;
-    assert!(rt; prints(rt.alloc(), &reply, "got n 0a7e\n")?);
+fn replies_are_printed(rt: HostRuntime) -> Result<(), Fail> {
+    assert!(rt; got_is_printed(rt.alloc())?);
+    assert!(rt; refused_is_printed(rt.alloc())?);
+    assert!(rt; put_is_printed(rt.alloc())?);
     Ok(())
 }
 
 #[test]
-fn refusals_are_printed(rt: HostRuntime) -> Result<(), Fail> {
-    let reply = refused(rt.alloc())?;
-    assert!(rt; prints(rt.alloc(), &reply, "refused put n empty\n")?);
-    Ok(())
-}
-
-#[test]
-fn puts_are_printed(rt: HostRuntime) -> Result<(), Fail> {
-    let reply = put(rt.alloc())?;
-    let text = "put n vid 4294967295 bid 18446744073709551615 size 0\n";
-    assert!(rt; prints(rt.alloc(), &reply, text)?);
-    Ok(())
-}
-
-#[test]
-fn laws_can_be_called(_rt: HostRuntime) -> Result<(), Fail> {
+fn laws_can_be_called(_rt: HostRuntime) {
     get_shows_what_was_put();
     put_enters_a_new_name();
     commands_decide_the_session();
-    Ok(())
 }
 
-/// The first and the count of a list of places.
-fn places(alloc: Global, spot: Spot) -> Result<(Option<Spot>, usize), Fail> {
+/// Whether a list of places is its item.
+fn keeps_spot(alloc: Global, spot: Spot) -> Result<bool, AllocError> {
     let own = Spots::from_vec(vec![in alloc; spot]?);
-    Ok((own.as_slice().first().copied(), own.len()))
+    Ok(own.len() == 1 && own.as_slice() == [spot].as_slice())
 }
 
-/// What the first says that was lost, and the count of a list of commands.
-fn losses(alloc: Global, lost: Lost) -> Result<(Option<Lost>, usize), Fail> {
+/// Whether the only item of a list says this of what was lost.
+fn says(items: &[Said], lost: Lost) -> bool {
+    match items {
+        [said] => said.lost == Some(lost),
+        _ => false,
+    }
+}
+
+/// Whether a list of commands is its item.
+fn keeps_said(alloc: Global, lost: Lost) -> Result<bool, AllocError> {
     let own = Spots::from_vec(Vec::new(alloc));
-    let saids = Saids::from_vec(vec![in alloc;
-        Said {
-            own,
-            lost: Some(lost)
-        },
-    ]?);
-    let first = saids.as_slice().first().and_then(|said| said.lost);
-    Ok((first, saids.len()))
+    let said = Said {
+        own,
+        lost: Some(lost),
+    };
+    let saids = Saids::from_vec(vec![in alloc; said]?);
+    Ok(saids.len() == 1 && says(saids.as_slice(), lost))
 }
 
-/// The first and the count of a list of volumes.
-fn volumes(alloc: Global, past: Past) -> Result<(Option<Past>, usize), Fail> {
+/// Whether a list of volumes is its item.
+fn keeps_past(alloc: Global, past: Past) -> Result<bool, AllocError> {
     let pasts = Pasts::from_vec(vec![in alloc; past]?);
-    Ok((pasts.as_slice().first().copied(), pasts.len()))
+    Ok(pasts.len() == 1 && pasts.as_slice() == [past].as_slice())
 }
 
 #[test]
 fn lists_of_a_session_are_their_items(rt: HostRuntime) -> Result<(), Fail> {
-    let spot = Spot { vid: 1, place: 7 };
-    let lost = Lost::Spoiled { place: 3 };
-    let past = Past { vid: 1 };
-    assert!(rt; places(rt.alloc(), spot)? == (Some(spot), 1));
-    assert!(rt; losses(rt.alloc(), lost)? == (Some(lost), 1));
-    assert!(rt; volumes(rt.alloc(), past)? == (Some(past), 1));
+    assert!(rt; keeps_spot(rt.alloc(), Spot { vid: 1, place: 7 })?);
+    assert!(rt; keeps_said(rt.alloc(), Lost::Spoiled { place: 3 })?);
+    assert!(rt; keeps_past(rt.alloc(), Past { vid: 1 })?);
     Ok(())
 }

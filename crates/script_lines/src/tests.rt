@@ -7,6 +7,7 @@ use crate::{Feed, LineFault, lines_come_one_by_one};
 use disk_base::{Failed, MemSource, Source};
 use std::alloc::{AllocError, Global};
 use std::test::Fail;
+use unit_id::Bytes;
 
 /// A source that hands out one byte at a time.
 #[derive(Drop)]
@@ -24,23 +25,53 @@ impl Source for Drip {
     }
 }
 
-/// The lines of a source, each with a bar behind it, and the fault that ended them.
+/// A source that hands out these bytes one at a time, and fails at the pulls of these numbers.
+fn slow_source(alloc: Global, input: &[u8], fails: &[u64]) -> Result<Drip, AllocError> {
+    let bytes = input.to_vec(alloc)?;
+    let fails = fails.to_vec(alloc)?;
+    Ok(Drip {
+        inner: MemSource::new(alloc, bytes, fails),
+    })
+}
+
+/// Adds a line with a bar behind it, or the mark of a fault, to a text; whether more can come.
+fn add(text: &mut Vec<u8>, answer: Result<Option<Bytes>, LineFault>) -> Result<bool, AllocError> {
+    match answer {
+        Ok(Some(line)) => {
+            text.extend_from_slice(line.as_slice())?;
+            text.push(b'|')?;
+        }
+        Ok(None) => return Ok(false),
+        Err(LineFault::Read) => text.push(b'!')?,
+        Err(LineFault::TooLong) => text.push(b'?')?,
+        Err(LineFault::Memory) => return Err(AllocError),
+    }
+    Ok(true)
+}
+
+/// The lines of a source, each with a bar behind it, and the faults between them.
 fn barred<S: Source>(alloc: Global, source: &mut S) -> Result<Vec<u8>, AllocError> {
     let mut feed = Feed::make(alloc, source);
     let mut text = Vec::new(alloc);
     for _ in 0..9 {
-        match feed.next_line() {
-            Ok(Some(line)) => {
-                text.extend_from_slice(line.as_slice())?;
-                text.extend_from_slice(b"|")?;
-            }
-            Ok(None) => return Ok(text),
-            Err(LineFault::Read) => text.extend_from_slice(b"!")?,
-            Err(LineFault::TooLong) => text.extend_from_slice(b"?")?,
-            Err(LineFault::Memory) => return Err(AllocError),
+        if !add(&mut text, feed.next_line())? {
+            break;
         }
     }
     Ok(text)
+}
+
+/// Whether a source of these bytes, handed out at once, has these lines.
+fn splits(alloc: Global, input: &[u8], want: &[u8]) -> Result<bool, AllocError> {
+    let bytes = input.to_vec(alloc)?;
+    let mut source = MemSource::new(alloc, bytes, Vec::new(alloc));
+    Ok(barred(alloc, &mut source)?.as_slice() == want)
+}
+
+/// Whether a source of these bytes, handed out one by one with these faults, has these lines.
+fn drips(alloc: Global, input: &[u8], fails: &[u64], want: &[u8]) -> Result<bool, AllocError> {
+    let mut source = slow_source(alloc, input, fails)?;
+    Ok(barred(alloc, &mut source)?.as_slice() == want)
 }
 
 /// Inputs, and their lines with a bar behind each.
@@ -60,17 +91,19 @@ fn inputs() -> [(&'static [u8], &'static [u8]); 11] {
     ]
 }
 
+/// The first input with other lines.
+fn missplit(alloc: Global) -> Result<Option<&'static [u8]>, AllocError> {
+    for (input, want) in inputs() {
+        if !splits(alloc, input, want)? || !drips(alloc, input, &[], want)? {
+            return Ok(Some(input));
+        }
+    }
+    Ok(None)
+}
+
 #[test]
 fn lines_of_any_pieces(rt: HostRuntime) -> Result<(), Fail> {
-    let alloc = rt.alloc();
-    for (input, want) in inputs() {
-        let mut whole = MemSource::new(alloc, input.to_vec(alloc)?, Vec::new(alloc));
-        assert_eq!(rt; barred(alloc, &mut whole)?.as_slice(), want);
-        let mut drip = Drip {
-            inner: MemSource::new(alloc, input.to_vec(alloc)?, Vec::new(alloc)),
-        };
-        assert_eq!(rt; barred(alloc, &mut drip)?.as_slice(), want);
-    }
+    assert_eq!(rt; missplit(rt.alloc())?, None);
     Ok(())
 }
 
@@ -81,36 +114,53 @@ fn the_law_can_be_called(_rt: HostRuntime) {
 
 #[test]
 fn faults_lose_no_byte(rt: HostRuntime) -> Result<(), Fail> {
-    let alloc = rt.alloc();
-    let mut drip = Drip {
-        inner: MemSource::new(alloc, b"ab\nc".to_vec(alloc)?, vec![in alloc; 1, 3, 6]?),
-    };
-    assert_eq!(rt;
-        barred(alloc, &mut drip)?.as_slice(),
-        b"!!ab|!c|".as_slice()
-    );
+    assert!(rt; drips(rt.alloc(), b"ab\nc", &[1, 3, 6], b"!!ab|!c|")?);
     Ok(())
 }
 
-#[test]
-fn lines_have_a_mebibyte_at_most(rt: HostRuntime) -> Result<(), Fail> {
-    let alloc = rt.alloc();
-    let table: [(usize, &[u8], Option<usize>); 5] = [
+/// How many bytes a line that was given has.
+fn len_of(answer: Result<Option<Bytes>, LineFault>) -> Option<usize> {
+    match answer {
+        Ok(Some(line)) => Some(line.len()),
+        _ => None,
+    }
+}
+
+/// How many bytes the first line has of an input of so many bytes with this end.
+fn first_len(alloc: Global, count: usize, end: &[u8]) -> Result<Option<usize>, AllocError> {
+    let mut input = vec![in alloc; b'#'; count]?;
+    input.extend_from_slice(end)?;
+    let mut source = MemSource::new(alloc, input, Vec::new(alloc));
+    let mut feed = Feed::make(alloc, &mut source);
+    Ok(len_of(feed.next_line()))
+}
+
+/// How many bytes an input has before its end, its end, and how many bytes its first line has.
+type Limit = (usize, &'static [u8], Option<usize>);
+
+/// Inputs at the limit.
+fn limits() -> [Limit; 5] {
+    [
         (1_048_576, b"\nx", Some(1_048_576)),
         (1_048_576, b"", Some(1_048_576)),
         (1_048_575, b"\r\n", Some(1_048_575)),
         (1_048_577, b"\n", None),
         (1_048_576, b"\r\n", None),
-    ];
-    for (count, end, want) in table {
-        let mut input = vec![in alloc; b'#'; count]?;
-        input.extend_from_slice(end)?;
-        let mut source = MemSource::new(alloc, input, Vec::new(alloc));
-        let found = match Feed::make(alloc, &mut source).next_line() {
-            Ok(Some(line)) => Some(line.len()),
-            _ => None,
-        };
-        assert_eq!(rt; found, want);
+    ]
+}
+
+/// The first of them with another line.
+fn mismeasured(alloc: Global) -> Result<Option<Limit>, AllocError> {
+    for (count, end, want) in limits() {
+        if first_len(alloc, count, end)? != want {
+            return Ok(Some((count, end, want)));
+        }
     }
+    Ok(None)
+}
+
+#[test]
+fn lines_have_a_mebibyte_at_most(rt: HostRuntime) -> Result<(), Fail> {
+    assert_eq!(rt; mismeasured(rt.alloc())?, None);
     Ok(())
 }
