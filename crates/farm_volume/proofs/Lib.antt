@@ -1,0 +1,2 @@
+mod GoingBack
+mod WholeVolumes
