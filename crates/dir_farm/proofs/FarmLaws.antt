@@ -7,7 +7,7 @@ use Rattle.std.specs.declared.cmp.Ordering.TheVariants.{Less, Equal, Greater}
 use Rattle.std.specs.BTreeMap.{BTreeMap, UpdatesBy, is_at}
 use Rattle.std.proofs.lemmas.Grind.{common_steps}
 use Rattle.disk_base.specs.Faults.{added}
-use Rattle.disk_base.specs.Places.{Place, Unknown, Absent, Away, Kept, is_lent, Keeps}
+use Rattle.disk_base.specs.Places.{is_lent}
 use Rattle.disk_base.specs.Farms.{FarmCall, Roots, ShelvesStay, OtherShelvesStay, HasFilesOf, LendsShelf, TakesShelfBack}
 use Rattle.disk_base.specs.FarmRacks.{place_cmp}
 use Rattle.disk_base.specs.declared.fault.FarmFault.{FarmFault}
@@ -46,23 +46,17 @@ call (Err NotEmpty) old new counts = record { never_falls = omega (arith, counts
 call (Err Failed) old new counts = record { never_falls = omega (arith, counts); failed = λ is. omega (arith, counts); others = λ ne. absurd (ne refl); told = refl; quiet = refl }
 call (Err Memory) old new counts = record { never_falls = omega (arith, counts); failed = λ is. absurd (cc is); others = λ _. counts; told = refl; quiet = refl }
 
-keeps : (old new : Place ShelfNotes) → new ≡ old → Keeps old new
-keeps Unknown new is = tt
-keeps Absent new is = is
-keeps Away new is = is
-keeps (Kept x) new is = is
-
 module _ (old new : FarmNotes) where
   stay : new.shelves ≡ old.shelves → ShelvesStay (farm_view old) (farm_view new)
   stay is = record {
     out = λ disk vid. ap (λ (shelves : Shelves). is_lent (shelf_at shelves disk vid)) is;
-    places = λ disk vid. keeps (place_of (shelf_at old.shelves disk vid)) (place_of (shelf_at new.shelves disk vid)) (ap (λ (shelves : Shelves). place_of (shelf_at shelves disk vid)) is);
+    places = λ disk vid. ap (λ (shelves : Shelves). place_of (shelf_at shelves disk vid)) is;
   }
 
   others : (disk vid : ℕ) (state : Option (Option ShelfNotes)) → SetsShelf disk vid state old.shelves new.shelves → OtherShelvesStay disk vid (farm_view old) (farm_view new)
   others disk vid state does = record {
     out = λ d v ne. ap is_lent (does.others d v ne);
-    places = λ d v ne. keeps (place_of (shelf_at old.shelves d v)) (place_of (shelf_at new.shelves d v)) (ap place_of (does.others d v ne));
+    places = λ d v ne. ap place_of (does.others d v ne);
   }
 
 if_ok : (result : Result Bool FarmFault) → IfOk result (λ _. Unit {0})
@@ -82,7 +76,7 @@ lends (Ok shelf) old new disk vid back does = record {
   others = others old new disk vid (Some None) does.1;
   files = lent_files (shelf_at old.shelves disk vid) shelf back (ap (λ (s : ShelfNotes). s.names) does.0);
   no_fault = ap (λ (s : ShelfNotes). s.faults) does.0;
-  told = λ told. absurd (cc told);
+  told = refl;
   quiet = λ quiet. absurd (cc quiet);
 }
 lends (Err NotEmpty) old new disk vid back does = absurd does

@@ -168,7 +168,7 @@ pub open_absent : (result : Result FileCounts ShelfFault) (old new : Names) (nam
 open_absent result old new name does = absent result (known_at old name) (opened_absent result old new name does)
 
 pub makes : (result : Result FileCounts ShelfFault) (old new : ShelfNotes) (name : ℕ) → MakesName name old.names new.names result → Makes file_view name (shelf_view old) (shelf_view new) result
-makes (Ok file) old new name does = record { lent = lent old new name file does.1 does.2; empty = λ told. absurd (cc told); settled = λ told. absurd (cc told) }
+makes (Ok file) old new name does = record { lent = lent old new name file does.1 does.2; empty = λ told. absurd (cc told); shows = tt; settled = λ told. absurd (cc told) }
 makes (Err faults.Exists) old new name does = record { known = there (known_at new.names name) does.0; stay = stay old new does.1 }
 makes (Err faults.Absent) old new name does = absurd does
 makes (Err faults.Failed) old new name does = record {

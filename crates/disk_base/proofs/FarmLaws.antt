@@ -10,7 +10,6 @@ use Rattle.disk_base.specs.Farms.{HasFile, ShelvesStay, OtherShelvesStay, FarmCa
 use Rattle.disk_base.specs.FarmRacks.{FarmState, ShelfSlots, shelf_at, SetsShelf, place_cmp, has_file, admin_in, farm_view, IsLentAnew, RootCounts, ShelfCounts}
 use Rattle.disk_base.specs.declared.fault.FarmFault.{FarmFault}
 use Rattle.disk_base.specs.declared.fault.FarmFault.TheVariants.{NotEmpty, Failed, Memory}
-use Rattle.disk_base.proofs.SlotLaws.{keeps}
 use Rattle.disk_base.proofs.PlaceLaws.{admin_iff, file_iff}
 use Rattle.disk_base.proofs.ShelfLaws.{stay, no_call_fails_shared, quiet_fails, quiet_together}
 
@@ -68,13 +67,13 @@ module _ (old new : FarmState) where
   shelves_stay : new.slots ≡ old.slots → ShelvesStay (farm_view old) (farm_view new)
   shelves_stay same = record {
     out = λ disk vid. ap (λ (s : ShelfSlots). is_lent (shelf_at s disk vid)) same;
-    places = λ disk vid. keeps (place_of (shelf_at old.slots disk vid)) (place_of (shelf_at new.slots disk vid)) (ap (λ (s : ShelfSlots). place_of (shelf_at s disk vid)) same);
+    places = λ disk vid. ap (λ (s : ShelfSlots). place_of (shelf_at s disk vid)) same;
   }
 
   others : (disk vid : ℕ) (slot : Option (Option ShelfState)) → SetsShelf disk vid slot old.slots new.slots → OtherShelvesStay disk vid (farm_view old) (farm_view new)
   others disk vid slot sets = record {
     out = λ d v ne. ap is_lent (sets.others d v ne);
-    places = λ d v ne. keeps (place_of (shelf_at old.slots d v)) (place_of (shelf_at new.slots d v)) (ap place_of (sets.others d v ne));
+    places = λ d v ne. ap place_of (sets.others d v ne);
   }
 
 -- what is told of a shelf that is lent
@@ -100,7 +99,7 @@ lends (Ok shelf) old new disk vid number back counts is sets same =
       others = others old new disk vid (Some None) sets;
       files = lent_files fails (shelf_at old.slots disk vid) shelf back is;
       no_fault = ap (λ (p : Plan). p.faults) plan;
-      told = λ told. refl;
+      told = refl;
       quiet = λ quiet. ap is_quiet plan ∙ no_call_fails_shared (2 ^ 48) number old.plan.fails old.plan.faults quiet;
     }
 lends (Err NotEmpty) old new disk vid number back counts is sets same = absurd counts

@@ -155,6 +155,7 @@ pub makes : (result : Result FileState ShelfFault) (old new : ShelfState) (name 
 makes (Ok file) old new name number counts exists is sets same = record {
   lent = lent old new name file sets (ap (λ (f : FileState). f.plan.faults) is) (λ quiet. ap (λ (f : FileState). is_quiet f.plan) is ∙ no_call_fails (2 ^ 32) number old.plan.fails old.plan.faults quiet);
   empty = λ told. ap content_of is;
+  shows = subst (λ (f : FileState). IfSome (content_of f) (λ bytes. bytes ≡ [])) (sym is) refl;
   settled = λ told. subst (λ (f : FileState). LeavesExactly [] (MayLeave f)) (sym is) (only_bytes []);
 }
 makes (Err Exists) old new name number counts exists is sets same = record {

@@ -1,7 +1,7 @@
 -- What a farm is seen as, and what the calls on it do.
 use Rattle.std.specs.Prelude.{◌≡◌, ◌↔◌, ◌+◌, ◌-◌, ◌^◌, ◌≤◌, min, ℕ, Bool, true, false, List, Option, Some, None, IsTrue, Result, Ok, Err, IfOk, IsErrOf}
 use Rattle.disk_base.specs.Faults.{Rose}
-use Rattle.disk_base.specs.Places.{Place, Absent, Away, Kept, is_there, IsTold, Keeps}
+use Rattle.disk_base.specs.Places.{Place, Absent, Away, Kept, is_there, IsTold}
 use Rattle.disk_base.specs.Shelves.{ShelfView, AllStay}
 use Rattle.disk_base.specs.declared.fault.FarmFault.{FarmFault}
 use Rattle.disk_base.specs.declared.fault.FarmFault.TheVariants.{NotEmpty, Failed}
@@ -50,15 +50,15 @@ RootHasAdmin seen place = HasFile seen (place 0 0) 1
 -- ---- calls
 
 module _ {S : Type 0} where
-  -- each shelf is where it was, and what wasn't known of it may be known now
+  -- each shelf is where it was
   pub record ShelvesStay (old new : FarmView S) : Type 0 where
     pub out : (disk vid : ℕ) → new.is_out disk vid ≡ old.is_out disk vid
-    pub places : (disk vid : ℕ) → Keeps (old.place disk vid) (new.place disk vid)
+    pub places : (disk vid : ℕ) → new.place disk vid ≡ old.place disk vid
 
   -- the same of each shelf but one
   pub record OtherShelvesStay (disk vid : ℕ) (old new : FarmView S) : Type 0 where
     pub out : (d v : ℕ) → (d ≡ disk → v ≡ vid → ⊥) → new.is_out d v ≡ old.is_out d v
-    pub places : (d v : ℕ) → (d ≡ disk → v ≡ vid → ⊥) → Keeps (old.place d v) (new.place d v)
+    pub places : (d v : ℕ) → (d ≡ disk → v ≡ vid → ⊥) → new.place d v ≡ old.place d v
 
 -- What each call keeps. It fails exactly where the count of faults rises in it.
 pub record FarmCall {S T : Type 0} (old new : FarmView S) (result : Result T FarmFault) : Type 0 where
@@ -89,14 +89,14 @@ HasFilesOf seen (Kept was) shelf = AllStay (seen was) shelf
 HasFilesOf seen Absent shelf = HasNoFile shelf
 HasFilesOf seen _ shelf = (name : ℕ) → shelf.is_out name ≡ false
 
--- a shelf is handed out, with no fault yet
+-- a shelf is handed out, with no fault yet, and it is told where the farm is
 pub record IsShelfLent {S F : Type 0} (seen : S → ShelfView F) (disk vid : ℕ) (old new : FarmView S) (shelf : S) : Type 0 where
   pub out : new.is_out disk vid ≡ true
   pub away : new.place disk vid ≡ Away
   pub others : OtherShelvesStay disk vid old new
   pub files : HasFilesOf seen (old.place disk vid) (seen shelf)
   pub no_fault : (seen shelf).faults ≡ 0
-  pub told : old.is_told ≡ true → (seen shelf).is_told ≡ true
+  pub told : (seen shelf).is_told ≡ old.is_told
   pub quiet : old.is_quiet ≡ true → (seen shelf).is_quiet ≡ true
 
 abbrev pub LendsShelf : {S F : Type 0} → (S → ShelfView F) → ℕ → ℕ → FarmView S → FarmView S → Result S FarmFault → Type 0

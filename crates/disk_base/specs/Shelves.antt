@@ -102,10 +102,11 @@ Opens seen name old new (Ok file) = IsOpened seen name old new file
 Opens seen name old new (Err Exists) = ⊥
 Opens seen name old new (Err _) = AllStay old new
 
--- an empty file is handed out, and a crash leaves it empty
+-- an empty file is handed out, and a crash leaves it empty; it shows no other bytes, whatever else is told
 pub record IsMade {F : Type 0} (seen : F → FileView) (name : ℕ) (old new : ShelfView F) (file : F) : Type 0 where
   pub lent : IsLent seen name old new file
   pub empty : old.is_told ≡ true → (seen file).content ≡ Some []
+  pub shows : IfSome (seen file).content (λ bytes. bytes ≡ [])
   pub settled : old.is_told ≡ true → LeavesExactly [] (seen file).images
 
 -- no file, or an empty one
