@@ -2,28 +2,17 @@
 use Rattle.std.proofs.Common.{◌≡◌, ◌∙◌, sym, ap, refl, subst, ℕ, suc, ◌+◌, ◌-◌, ◌<◌, ◌≤◌, true, false, List, [], ◌∷◌, ◌++◌, length, length-append, arith}
 use Rattle.std.proofs.lemmas.List.Sums.{sum_by-cons}
 use Rattle.disk_base.specs.Disk.{FileView}
-use Rattle.disk_base.specs.Places.{Place as Slot, Unknown, Absent, Away, Kept, Keeps}
+use Rattle.disk_base.specs.Places.{Kept}
 use Rattle.disk_base.specs.Shelves.{ShelfView}
 use Rattle.disk_base.specs.Farms.{FarmView, TakesShelfBack}
 use Rattle.blob_node.specs.Station.{StationOver, IsHandedBack}
 use Rattle.blob_node.specs.Station as single
-use Rattle.blob_node.proofs.NewFiles.{keeps_then}
 use Rattle.volume_world.specs.Stations.{AreOn}
 use Rattle.volume_world.specs.Stations as all
 use Rattle.farm_volume.specs.Lending.{AllKept, AreOut, IsBeside, OthersStay, Returns}
 
-pub keeps_same : {T : Type 0} (slot : Slot T) → Keeps slot slot
-keeps_same Unknown = tt
-keeps_same Absent = refl
-keeps_same Away = refl
-keeps_same (Kept x) = refl
-
 pub stay_same : {S : Type 0} (vid first count : ℕ) (farm : FarmView S) → OthersStay vid first count farm farm
-stay_same vid first count farm = record { out = λ d v beside. refl; places = λ d v beside. keeps_same (farm.place d v) }
-
--- what is kept at a place stays so
-pub kept_then : {T : Type 0} (slot : Slot T) (x : T) (then : Slot T) → slot ≡ Kept x → Keeps slot then → then ≡ Kept x
-kept_then slot x then e keeps = subst (λ s. Keeps s then) e keeps
+stay_same vid first count farm = record { out = λ d v beside. refl; places = λ d v beside. refl }
 
 module _ {S E : Type 0} where
   -- all but the last
@@ -60,7 +49,7 @@ module _ {S E : Type 0} (shelf_seen : S → ShelfView E) (seen : E → FileView)
     kept_still first (station ∷ stations) less on kept = (
       record {
         shelf = kept.0.shelf;
-        kept = kept_then (old.place station.disk vid) kept.0.shelf (new.place station.disk vid) kept.0.kept (takes.others.places station.disk vid (λ same v. let is = on.1 in omega (arith, same, is, less)));
+        kept = takes.others.places station.disk vid (λ same v. let is = on.1 in omega (arith, same, is, less)) ∙ kept.0.kept;
         handed = kept.0.handed;
       },
       kept_still (suc first) stations (omega (arith, less)) on.2 kept.1,
@@ -93,7 +82,7 @@ module _ {S E : Type 0} (shelf_seen : S → ShelfView E) (seen : E → FileView)
       );
       others = record {
         out = λ d v beside. takes.others.out d v (apart d v beside) ∙ rest.others.out d v (behind d v beside);
-        places = λ d v beside. keeps_then (old.place d v) (mid.place d v) (new.place d v) (rest.others.places d v (behind d v beside)) (takes.others.places d v (apart d v beside));
+        places = λ d v beside. takes.others.places d v (apart d v beside) ∙ rest.others.places d v (behind d v beside);
       };
       count =
           let sum = count_of station stations in let was = rest.count in let its = takes.count in let own = handed.count in let never = takes.never_falls in

@@ -1,2 +1,5 @@
 mod GoingBack
 mod WholeVolumes
+mod Taking
+mod Lent
+mod MadeVolumes

@@ -4,7 +4,6 @@ use Rattle.disk_base.specs.Disk.{FileView}
 use Rattle.disk_base.specs.Shelves.{ShelfView}
 use Rattle.disk_base.specs.Farms.{FarmView, TakesShelfBack}
 use Rattle.blob_node.specs.Station.{StationOver}
-use Rattle.blob_node.proofs.NewFiles.{keeps_then}
 use Rattle.volume_world.specs.Stations.{AreOn}
 use Rattle.volume_world.specs.WorldWay.{IsWorld}
 use Rattle.farm_volume.specs.Lending.{AllKept, AreBack, AreOut, IsBeside, OthersStay, Returns, ReturnsLog}
@@ -30,7 +29,7 @@ module _ {S E : Type 0} (shelf_seen : S → ShelfView E) (seen : E → FileView)
     pub others_stay : OthersStay vid 0 (length stations + 1) old new
     others_stay = record {
       out = λ d v beside. takes.others.out d v (first_apart d v beside) ∙ rest.others.out d v (rest_apart d v beside);
-      places = λ d v beside. keeps_then (old.place d v) (mid.place d v) (new.place d v) (rest.others.places d v (rest_apart d v beside)) (takes.others.places d v (first_apart d v beside));
+      places = λ d v beside. takes.others.places d v (first_apart d v beside) ∙ rest.others.places d v (rest_apart d v beside);
     }
 
     pub units_kept : AreOn vid 1 stations → AllKept shelf_seen seen vid stations new

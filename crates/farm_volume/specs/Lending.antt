@@ -1,7 +1,7 @@
 -- The shelves of a farm that are one volume's, and how they go back.
 use Rattle.std.specs.Prelude.{ℕ, ◌≡◌, ◌+◌, ◌-◌, ◌^◌, ◌<◌, ◌≤◌, min, true, false, List, [], ◌∷◌, length}
 use Rattle.disk_base.specs.Disk.{FileView}
-use Rattle.disk_base.specs.Places.{Place, Kept, Keeps}
+use Rattle.disk_base.specs.Places.{Place, Kept}
 use Rattle.disk_base.specs.Shelves.{ShelfView, TakesBack}
 use Rattle.disk_base.specs.Farms.{FarmView, TakesShelfBack}
 use Rattle.blob_node.specs.Station.{StationOver, IsHandedBack}
@@ -19,10 +19,10 @@ module _ {S : Type 0} where
   abbrev pub AreBack : ℕ → ℕ → ℕ → FarmView S → Type 0
   AreBack vid first count farm = (d : ℕ) → first ≤ d → d < first + count → farm.is_out d vid ≡ false
 
-  -- each other shelf is where it was, and what was known of it stays
+  -- each other shelf is where it was
   pub record OthersStay (vid first count : ℕ) (old new : FarmView S) : Type 0 where
     pub out : (d v : ℕ) → IsBeside vid first count d v → new.is_out d v ≡ old.is_out d v
-    pub places : (d v : ℕ) → IsBeside vid first count d v → Keeps (old.place d v) (new.place d v)
+    pub places : (d v : ℕ) → IsBeside vid first count d v → new.place d v ≡ old.place d v
 
 module _ {S E : Type 0} (shelf_seen : S → ShelfView E) (seen : E → FileView) where
   -- the shelf of a station is kept at a place, with its units' files

@@ -4,12 +4,16 @@ ghost use Rattle.std.specs.Prelude.{◌≡◌, ◌+◌, true};
 ghost use Rattle.volume_world.specs.WorldWay.{IsWorld, way_of};
 ghost use Rattle.farm_volume.specs.Lending.{AreOut};
 ghost use Rattle.farm_volume.specs.FarmVolume.{IsBack};
+ghost use Rattle.farm_volume.specs.Making.{CanMake, Makes};
 
+use crate::lending::{lend_log, lend_stations};
 use crate::returning::{return_log, return_stations};
 use code_mode::Mode;
 use disk_base::Farm;
+use std::alloc::Global;
 use std::marker::Model;
-use volume_world::{Event, Port, Reply, StepFault, Trace, World};
+use unit_id::Home;
+use volume_world::{Event, Port, Reply, StepFault, Trace, World, WorldFault};
 
 /// One volume over the shelves of a farm, which are out while it lives.
 ///
@@ -43,6 +47,42 @@ impl<F: Farm> FarmVolume<F> {
         ensures { result ≡ record { manager = manager; world = world } }
     {
         FarmVolume { manager, world }
+    }
+
+    /// A new volume of this mode on the disks from 1 on, with a unit at each of these homes: its log is made on the shelf of
+    /// disk 0, and a station on that of each other disk. The farm has these shelves, and no file on them.
+    ///
+    /// # Errors
+    /// Each leaves every shelf at the farm. `Fault` comes only where a call on the farm, a shelf or a file failed. A farm that
+    /// doesn't tell what it holds may have files there: then `Spoiled` or `Damaged` says that one isn't new, and `Spoiled` with
+    /// place 0 that there is a log of this number. Over a farm that tells, only `Fault` and `Memory` come.
+    pub fn make(
+        alloc: Global,
+        farm: &mut F,
+        vid: u32,
+        mode: Mode,
+        disks: u32,
+        homes: &[Home],
+    ) -> Result<FarmVolume<F>, WorldFault>
+        requires { CanMake F.Disk.seen vid mode disks homes.now (F.seen farm.old) }
+        ensures { Makes F.Disk.seen F.Disk.File.seen vid mode disks homes.now (F.seen farm.old) (F.seen farm.new) result }
+    {
+        let (manager, file) = lend_log(alloc, farm, vid)?;
+        let stations = match lend_stations(alloc, farm, vid, disks) {
+            Ok(stations) => stations,
+            Err(fault) => {
+                return_log(farm, vid, manager, file);
+                return Err(fault);
+            }
+        };
+        match World::make(alloc, vid, mode, stations, file, homes) {
+            Ok(world) => Ok(FarmVolume::over(manager, world)),
+            Err(refused) => {
+                return_stations(farm, vid, refused.stations);
+                return_log(farm, vid, manager, refused.file);
+                Err(refused.fault)
+            }
+        }
     }
 
     /// Hands the log's file to the manager's shelf and each shelf to the farm, and gives the history. It takes no memory
