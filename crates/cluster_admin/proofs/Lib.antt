@@ -1,5 +1,6 @@
 pub mod Rows
 pub mod Draws
+pub mod NewHomes
 pub mod NameLemmas
 pub mod NameBlocks
 pub mod Sweeps

@@ -8,6 +8,7 @@ pub mod Inside
 pub mod Refusals
 pub mod Names
 pub mod Drawing
+pub mod NewHomes
 pub mod Picking
 pub mod Settling
 pub mod Planning

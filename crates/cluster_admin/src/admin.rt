@@ -131,6 +131,14 @@ impl Admin {
         }
     }
 
+    /// How many disks there are, 0 before they are given.
+    pub fn disk_count(&self) -> u32
+        ensures count { result ≡ length (state_of self.now).disks }
+        ensures most { result ≤ 64 }
+    {
+        self.disks.as_slice().len() as u32
+    }
+
     /// The state of a disk. Takes no memory.
     ///
     /// # Errors

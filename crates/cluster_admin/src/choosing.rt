@@ -4,7 +4,9 @@ ghost use Rattle.std.specs.Prelude.{◌≡◌, ◌<◌, ◌≤◌, ◌-◌, ◌+
 ghost use Rattle.unit_id.specs.declared.homes.Home.{Home};
 ghost use Rattle.cluster_admin.specs.Placing.{Plan, IsAfter};
 ghost use Rattle.cluster_admin.specs.Drawing.{choice, shown_after, drawn, drawn_for, new_homes, with_volume, stays, homes_of};
+ghost use Rattle.cluster_admin.specs.Disks.{free_count};
 ghost use Rattle.cluster_admin.specs.Inside.{state_of, placer_of};
+ghost use Rattle.cluster_admin.specs.NewHomes.{AreApart, AreNewHomes, IsOffered};
 ghost use Rattle.cluster_admin.specs.Refusals.{IsRefusedExactly, new_volume_fault};
 
 use crate::admin::Admin;
@@ -29,6 +31,7 @@ fn pick(placer: &mut Box<dyn Placer>, options: &[Place]) -> usize
 /// The disk of the option that a placer takes, or 0 where there is no option.
 pub fn choose(placer: &mut Box<dyn Placer>, options: &[Place]) -> u32
     ensures disk { result ≡ choice (plan placer.old) [] options.now }
+    ensures offered { 0 < length options.now → IsOffered options.now result }
     ensures moved { IsAfter (plan placer.old) (shown_after [] options.now) (plan placer.new) }
 {
     if options.is_empty() {
@@ -80,7 +83,7 @@ fn new_homes(vid: u32, disks: &[u32]) -> Homes
 }
 
 /// Lets a placer choose so many disks, one after the other, each among the free ones that it hasn't
-/// chosen yet.
+/// chosen yet. Where at least as many are free, no two of those that it answers are one.
 fn draw(
     placer: &mut Box<dyn Placer>,
     disks: &[Disk],
@@ -91,6 +94,7 @@ fn draw(
     requires volumes { length volumes.now ≤ 64 }
     requires count { count ≤ 27 }
     ensures row { result ≡ (drawn (plan placer.old) disks.now volumes.now count).homes }
+    ensures apart { count ≤ free_count disks.now → AreApart (length disks.now) result }
     ensures moved { IsAfter (plan placer.old) (drawn (plan placer.old) disks.now volumes.now count).shown (plan placer.new) }
 {
     let mut homes = DiskRow::empty();
@@ -118,8 +122,8 @@ impl Admin {
         }
     }
 
-    /// Makes a volume: gives it the next number, and each of its units a disk. Answers its number and
-    /// its units, in order of index, each of epoch 1. Takes no memory.
+    /// Makes a volume: gives it the next number, and each of its units a disk, no two of them the same.
+    /// Answers its number and its units, in order of index, each of epoch 1. Takes no memory.
     ///
     /// # Errors
     /// `LimitVolumes` where 64 numbers were given, `FewDisks` where fewer disks than it has units are
@@ -128,6 +132,7 @@ impl Admin {
         ensures fault { IsRefusedExactly (new_volume_fault (state_of self.old) mode) result }
         ensures made { IfOk result (λ made. (made.0 ≡ length (state_of self.old).volumes + 1)
             × (made.1 ≡ new_homes made.0 0 (drawn_for (plan (placer_of self.old)) (state_of self.old) mode).homes)) }
+        ensures legal { IfOk result (λ made. AreNewHomes (length (state_of self.old).disks) mode made.0 made.1) }
         ensures moved { OnOk result (IsAfter (plan (placer_of self.old)) (drawn_for (plan (placer_of self.old)) (state_of self.old) mode).shown (plan (placer_of self.new))) }
         ensures ok { OnOk result (state_of self.new ≡ with_volume (state_of self.old) mode (drawn_for (plan (placer_of self.old)) (state_of self.old) mode).homes) }
         ensures err { OnErr result ((state_of self.new ≡ state_of self.old) × (placer_of self.new ≡ placer_of self.old)) }

@@ -6,7 +6,7 @@
 //! `assign`, which answers `NoDisk` after it gave every other target its disk. Names are kept in order
 //! of put.
 //!
-//! Public calls: `Admin::make`, `set_disks`, `use_placer`, `state`, `break_disk`; `new_volume`,
+//! Public calls: `Admin::make`, `set_disks`, `use_placer`, `disk_count`, `state`, `break_disk`; `new_volume`,
 //! `lose_volume`, `pick_volume`; `plan_balance`, `plan_drop`, `plan_repair`, `plan_repair_all`;
 //! `is_unfinished`, `unfinished`, `task`, `assign`, `finish`, `settle`; `may_add_name`, `add_name`,
 //! `name`, `remove_name`, `name_at`, `location`; the trait `Placer` and its forms `First`, `Least` and

@@ -267,6 +267,27 @@ fn placers_and_volumes(rt: HostRuntime) -> Result<(), Fail> {
     Ok(())
 }
 
+/// Each free disk holds one unit, also where turns go round several times and no other disk is free.
+fn each_free_disk_once(rt: &impl Abort, admin: &mut Admin) {
+    let steps = [
+        Step::Disks(7, Ok(())),
+        Step::Placer(3, Ok(())),
+        Step::Break(4, Ok(())),
+        Step::Volume(Mode::Ec3P3, Ok(&[1, 3, 6, 2, 5, 7])),
+        Step::Volume(Mode::Ec3P3, Ok(&[1, 5, 2, 3, 6, 7])),
+        Step::Break(7, Ok(())),
+        Step::Volume(Mode::Ec3P3, Err(AdminFault::FewDisks { have: 5, need: 6 })),
+    ];
+    run_all(rt, admin, &steps);
+}
+
+#[test]
+fn disks_apart(rt: HostRuntime) -> Result<(), Fail> {
+    let mut admin = three_placers(rt.alloc())?;
+    each_free_disk_once(&rt, &mut admin);
+    Ok(())
+}
+
 /// Ten disks and two volumes on the first nine.
 fn two_volumes(rt: &impl Abort, admin: &mut Admin) {
     let steps = [
