@@ -41,36 +41,39 @@ fn get(alloc: Global, volume: &mut MemoryVolume, bid: u64, text: &str) -> Result
     }
 }
 
-/// The first of what was told that isn't what was told before, or else the last.
-fn put_each(
-    alloc: Global,
-    volume: &mut MemoryVolume,
-    from: u32,
-    to: u32,
-    text: &str,
-) -> Result<String> {
-    let mut told = put(alloc, volume, u64::from(from), text)?;
-    for bid in from..to {
-        let next = put(alloc, volume, u64::from(bid) + 1, text)?;
-        if next.as_str() != told.as_str() {
-            return Ok(next);
-        }
-        told = next;
-    }
-    Ok(told)
+/// What is done with each of some blobs.
+#[derive(Clone, Copy)]
+enum Access {
+    Put,
+    Get,
 }
 
-/// As for puts.
-fn get_each(
+/// One of these blobs is put with these bytes, or got as one that should have them.
+fn access_one(
     alloc: Global,
     volume: &mut MemoryVolume,
+    access: Access,
+    bid: u64,
+    text: &str,
+) -> Result<String> {
+    match access {
+        Access::Put => put(alloc, volume, bid, text),
+        Access::Get => get(alloc, volume, bid, text),
+    }
+}
+
+/// The first of what was told that isn't what was told before, or else the last.
+fn access_each(
+    alloc: Global,
+    volume: &mut MemoryVolume,
+    access: Access,
     from: u32,
     to: u32,
     text: &str,
 ) -> Result<String> {
-    let mut told = get(alloc, volume, u64::from(from), text)?;
+    let mut told = access_one(alloc, volume, access, u64::from(from), text)?;
     for bid in from..to {
-        let next = get(alloc, volume, u64::from(bid) + 1, text)?;
+        let next = access_one(alloc, volume, access, u64::from(bid) + 1, text)?;
         if next.as_str() != told.as_str() {
             return Ok(next);
         }
@@ -140,10 +143,12 @@ fn about_blobs(alloc: Global, volume: &mut MemoryVolume, words: &[&str]) -> Resu
         ["put", bid, text] => Some(put(alloc, volume, large(bid)?, text)?),
         ["get", bid, text] => Some(get(alloc, volume, large(bid)?, text)?),
         ["puts", from, to, text] => {
-            Some(put_each(alloc, volume, small(from)?, small(to)?, text)?)
+            let (from, to) = (small(from)?, small(to)?);
+            Some(access_each(alloc, volume, Access::Put, from, to, text)?)
         }
         ["gets", from, to, text] => {
-            Some(get_each(alloc, volume, small(from)?, small(to)?, text)?)
+            let (from, to) = (small(from)?, small(to)?);
+            Some(access_each(alloc, volume, Access::Get, from, to, text)?)
         }
         ["sweep", bid] => Some(sweep(alloc, volume, large(bid)?)?),
         _ => None,

@@ -5,14 +5,14 @@
 //!     story NAME
 //!     for VARIABLE in VALUE..      (at most twice: the story is played for each choice of values)
 //!     volume MODE disks D          (and behind it at most one of the four below)
-//!     ROW -> WANTED [or WANTED]..  (each row is one event or one call)
+//!     ROW -> WANTED                (each row is one event or one call, and what it has to tell)
 //!
 //! Each choice has a volume of its own. Behind it may stand `lying`, whose log of the manager tells nothing, so that shards can be put
 //! or copied by hand; `log-fails CALL,..` and `disk-fails DISK CALL,..`, calls on the log or on the files of a disk that fail; or
 //! `epoch EPOCH`, with which the unit of index 0 begins.
 //! In a row `$VARIABLE` stands for its value, and `$VARIABLE.1` and `$VARIABLE.2` for what stands before and behind the slash
-//! in it. A row behind `at VALUE` is played only where the variable AT has that value. `any` is wanted of a row that may tell
-//! anything but `other-bytes`. UNIT is INDEX EPOCH DISK, and TARGETS are INDEX:DISK with commas between. The rows are:
+//! in it. A row behind `at VALUE` is played only where the variable AT has that value. UNIT is INDEX EPOCH DISK, and TARGETS are
+//! INDEX:DISK with commas between. The rows are:
 //!
 //! - events: `tick BY`, `plan DISK FATE COUNT`, `lease`, `begin BID TEXT`, `end BID`, `flush`, `lock TASK TARGETS`,
 //!   `retarget TASK INDEX DISK`, `swap TASK`, `unlock TASK`, `break DISK`, `ask BID`, `commit BID`, `restart DISK`,
@@ -27,6 +27,7 @@
 #![tactic(auto)]
 
 mod calls;
+mod counting;
 mod events;
 mod play;
 mod requests;
@@ -35,7 +36,8 @@ mod story;
 mod words;
 
 use anyhow::Result;
-use play::{Tally, play_all};
+use counting::Tally;
+use play::play_all;
 use std::alloc::Global;
 use std::io::Read;
 use std::process::ExitCode;
@@ -59,7 +61,7 @@ fn main(rt: HostRuntime) -> ExitCode {
                 "{} stories, {} rows, {} wrong",
                 tally.stories, tally.rows, tally.wrong
             );
-            if printed.is_ok() && tally.wrong == 0 {
+            if printed.is_ok() && tally.is_clean() {
                 ExitCode::SUCCESS
             } else {
                 ExitCode::FAILURE

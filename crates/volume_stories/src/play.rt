@@ -1,19 +1,12 @@
 //! Playing stories.
 
 use crate::calls::told;
+use crate::counting::Tally;
 use crate::setting::volume;
 use crate::story::{Choice, Story, Variable, line_with, read_variable, starts, words_of};
 use anyhow::{Context, Result, bail};
 use memory_volume::MemoryVolume;
 use std::alloc::Global;
-
-/// How many stories were played, how many rows, and how many of these went otherwise.
-#[derive(Clone, Copy)]
-pub(crate) struct Tally {
-    pub(crate) stories: u32,
-    pub(crate) rows: u32,
-    pub(crate) wrong: u32,
-}
 
 /// Whether a line isn't played itself: it is blank, a comment, or says of a story what it is played over.
 fn is_passed_over(line: &str) -> bool {
@@ -22,17 +15,6 @@ fn is_passed_over(line: &str) -> bool {
         || line.starts_with("story ")
         || line.starts_with("for ")
         || line.starts_with("volume ")
-}
-
-/// Whether what was told is one of what is wanted.
-fn is_wanted(wanted: &str, told: &str) -> bool {
-    for one in wanted.split(" or ") {
-        let one = one.trim();
-        if one == told || (one == "any" && told != "other-bytes") {
-            return true;
-        }
-    }
-    false
 }
 
 /// The words of a row that is played in this choice; none of one that isn't.
@@ -64,10 +46,10 @@ fn play_row<'a, R: Print>(
     if words.is_empty() {
         return Ok(());
     }
-    tally.rows = tally.rows.saturating_add(1);
     let told = told(alloc, volume, words)?;
-    if !is_wanted(wanted, told.as_str()) {
-        tally.wrong = tally.wrong.saturating_add(1);
+    let is_right = told.as_str() == wanted.trim();
+    tally.count_row(is_right);
+    if !is_right {
         println!(rt; "  {}: told {told}", line.trim())?;
     }
     Ok(())
@@ -94,7 +76,7 @@ fn play_rows<'a, R: Print>(
     Ok(())
 }
 
-/// Plays a story in one choice of values, over a volume of its own.
+/// Plays a story in one choice of values, over a volume of its own. One that can't be made counts as a row that went otherwise.
 fn play_once<'a, R: Print>(
     rt: &R,
     alloc: Global,
@@ -105,7 +87,7 @@ fn play_once<'a, R: Print>(
     let line = line_with(story.lines, "volume ", 0).context("a story has a volume")?;
     let words = words_of(alloc, line, choice)?;
     let Some(mut volume) = volume(alloc, &words)? else {
-        tally.wrong = tally.wrong.saturating_add(1);
+        tally.count_row(false);
         println!(rt; "  {}: not made", line.trim())?;
         return Ok(());
     };
@@ -139,7 +121,7 @@ fn play<'a, R: Print>(rt: &R, alloc: Global, story: Story<'a>, tally: &mut Tally
     for value in first.values.iter() {
         play_with(rt, alloc, story, (first.name, *value), &second, tally)?;
     }
-    tally.stories = tally.stories.saturating_add(1);
+    tally.count_story();
     println!(rt;
         "{}: {} rows",
         story.name,
@@ -165,11 +147,7 @@ fn check_front(lines: &[&str]) -> Result<()> {
 pub(crate) fn play_all<R: Print>(rt: &R, alloc: Global, text: &str) -> Result<Tally> {
     let lines: Vec<&str> = text.lines().collect(alloc)?;
     check_front(&lines)?;
-    let mut tally = Tally {
-        stories: 0,
-        rows: 0,
-        wrong: 0,
-    };
+    let mut tally = Tally::new();
     let starts = starts(alloc, &lines)?;
     for pair in starts.windows(2) {
         if let Some(story) = story_of(&lines, pair) {
