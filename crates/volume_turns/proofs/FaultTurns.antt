@@ -40,8 +40,8 @@ use Rattle.volume_calls.specs.SingleCalls.{tick_tells, done_tells, restart_tells
 use Rattle.volume_calls.specs.Flushes.{none_yet, after_flush, flush_call}
 use Rattle.volume_turns.specs.declared.command.VolumeCommand.{VolumeCommand}
 use Rattle.volume_turns.specs.declared.command.VolumeCommand.TheVariants as commands
-use Rattle.volume_turns.specs.Answers.{Replied, put_reply, got_reply, fetched_reply, ask_reply, tick_reply, broken_reply, planned_reply, log_refused, flush_reply, restart_reply, manager_reply}
-use Rattle.volume_turns.specs.Turn.{TurnOf, PutTurn, PutBehind, taken_by, TurnBy}
+use Rattle.volume_turns.specs.Answers.{Replied, put_reply, got_reply, fetched_reply, ask_reply, tick_reply, broken_reply, planned_reply, seen_reply, flush_reply, restart_reply, manager_reply}
+use Rattle.volume_turns.specs.Turn.{TurnOf, PutTurn, TurnBy}
 use Rattle.volume_turns.specs.Session.{joined, is_faulty, FaultsAreCounted}
 use Rattle.volume_turns.proofs.CallCauses.{gives, going_cause, fault_there}
 
@@ -149,6 +149,19 @@ only_manager replies.Fault e = refl
 only_manager (replies.Spoiled place) e = absurd (cc e)
 only_manager reply e = absurd (cc e)
 
+whole_look : (answer : Result View LogFault) → is_faulty (seen_reply answer) ≡ true → cut_by log_cut answer ≡ None
+whole_look (Ok view) e = absurd (cc e)
+whole_look (Err log_faults.Fault) e = refl
+whole_look (Err (log_faults.Spoiled place)) e = absurd (cc e)
+whole_look (Err log_faults.HistoryFull) e = absurd (cc e)
+whole_look (Err log_faults.Memory) e = absurd (cc e)
+
+only_look : (reply : Reply) → gives {S = Unit {0}} (λ a. is_faulty (seen_reply a)) (telling (look_tells reply)) ≡ true → reply ≡ replies.Fault
+only_look (replies.Seen view) e = absurd (cc e)
+only_look replies.Fault e = refl
+only_look (replies.Spoiled place) e = absurd (cc e)
+only_look reply e = absurd (cc e)
+
 -- ---- puts
 
 abbrev is_put_fault : Result Acked PutFault → Bool
@@ -216,47 +229,10 @@ put_is_fault (Err (put_faults.Spoiled place)) e = absurd (cc e)
 put_is_fault (Err put_faults.HistoryFull) e = absurd (cc e)
 put_is_fault (Err put_faults.Memory) e = absurd (cc e)
 
--- ---- the look before a put
-
-abbrev is_look_fault : Result View LogFault → Bool
-is_look_fault (Err log_faults.Fault) = true
-is_look_fault answer = false
-
-only_look : (reply : Reply) → gives {S = Unit {0}} is_look_fault (telling (look_tells reply)) ≡ true → reply ≡ replies.Fault
-only_look (replies.Seen view) e = absurd (cc e)
-only_look replies.Fault e = refl
-only_look (replies.Spoiled place) e = absurd (cc e)
-only_look reply e = absurd (cc e)
-
-log_is_fault : (fault : LogFault) → is_faulty (log_refused fault) ≡ true → fault ≡ log_faults.Fault
-log_is_fault log_faults.Fault e = refl
-log_is_fault (log_faults.Spoiled place) e = absurd (cc e)
-log_is_fault log_faults.HistoryFull e = absurd (cc e)
-log_is_fault log_faults.Memory e = absurd (cc e)
-
-look_fault : (looked : List Part) → EndsBy (one_event events.Look look_tells) tt looked (Err log_faults.Fault) (cut_by {T = View} log_cut (Err log_faults.Fault)) → 1 ≤ fault_count looked
-look_fault looked h = fault_of (one_event events.Look look_tells) is_look_fault tt looked (Err log_faults.Fault) (λ s reply e. only_look reply e) h refl
-
--- behind the look
-behind_fault : (mode : Mode) (first : ℕ) (object : List ℕ) (seen : Result View LogFault) (whether : Result Bool LogFault) (looked rest : List Part) (result : Replied) → whether ≡ taken_by mode seen
-    → EndsBy (one_event events.Look look_tells) tt looked seen (cut_by log_cut seen) → PutBehind mode first object whether rest result → is_faulty result ≡ true → 1 ≤ fault_count looked + fault_count rest
-behind_fault mode first object seen (Ok true) looked rest result told looks h faulty =
-    let is = put_is_fault h.answer (ap is_faulty (sym h.given) ∙ faulty) in
-    let one = object_put_fault mode first (pieces_of object) rest (subst (λ (a : Result (Unit {0}) PutFault). ObjectPutsBy mode first (pieces_of object) rest a) is h.puts) in
-    omega arith
-behind_fault mode first object seen (Ok false) looked rest result told looks h faulty = absurd (let e : false ≡ true = ap is_faulty (sym h.1) ∙ faulty in cc)
-behind_fault mode first object (Ok view) (Err other) looked rest result told looks h faulty = absurd (cc told)
-behind_fault mode first object (Err why) (Err other) looked rest result told looks h faulty =
-    let same : other ≡ why = cc told in
-    let is : why ≡ log_faults.Fault = sym same ∙ log_is_fault other (ap is_faulty (sym h.1) ∙ faulty) in
-    let one = look_fault looked (subst (λ (f : LogFault). EndsBy (one_event events.Look look_tells) tt looked (Err f) (cut_by {T = View} log_cut (Err f))) is looks) in
-    omega arith
-
 put_turn_fault : (mode : Mode) (first : ℕ) (object : List ℕ) (parts : List Part) (result : Replied) → PutTurn mode first object parts result → is_faulty result ≡ true → 1 ≤ fault_count parts
 put_turn_fault mode first object parts result h faulty =
-    let both = behind_fault mode first object h.seen (taken_by mode h.seen) h.looked h.rest result refl h.looks h.behind faulty in
-    let sum = ap fault_count h.split ∙ faults_more h.looked h.rest in
-    omega arith
+    object_put_fault mode first (pieces_of object) parts
+    (subst (λ (a : Result (Unit {0}) PutFault). ObjectPutsBy mode first (pieces_of object) parts a) (put_is_fault h.answer (ap is_faulty (sym h.given) ∙ faulty)) h.puts)
 
 -- ---- gets
 
@@ -349,6 +325,7 @@ fetched_is_fault (Err fault) e = got_is_fault (Err fault) e
 -- ---- turns
 
 fault_in : (mode : Mode) (command : VolumeCommand) (parts : List Part) (result : Replied) → TurnBy mode command parts result → is_faulty result ≡ true → 1 ≤ fault_count parts
+fault_in mode commands.Look parts result h faulty = turn_fault (one_event events.Look look_tells) tt log_cut seen_reply parts result whole_look (λ s r e. only_look r e) h faulty
 fault_in mode (commands.Put first object) parts result h faulty = put_turn_fault mode first object parts result h faulty
 fault_in mode (commands.Get first size) parts result h faulty =
     object_get_fault mode first (blob_sizes size) [] parts

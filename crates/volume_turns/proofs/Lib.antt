@@ -1,4 +1,3 @@
-mod PutTurns
 mod CallCauses
 mod FaultTurns
 pub mod Sessions

@@ -1,5 +1,5 @@
 -- An object that a turn put is begun and acknowledged from there on.
-use Rattle.std.proofs.Common.{◌≡◌, ℕ, zero, suc, ◌+◌, ◌<◌, ◌≤◌, ◌⊎◌, inl, inr, Bool, true, false, List, [], ◌∷◌, ◌++◌, length, get_or, Result, Ok, Err, refl, sym, ◌∙◌, ap, subst, add-zero, arith}
+use Rattle.std.proofs.Common.{◌≡◌, ℕ, zero, suc, ◌+◌, ◌<◌, ◌⊎◌, inl, inr, Bool, true, false, List, [], ◌∷◌, ◌++◌, length, get_or, Result, Ok, Err, refl, sym, ◌∙◌, ap, subst, add-zero, arith}
 use Rattle.unit_id.specs.Lists.{IsIn}
 use Rattle.code_mode.specs.declared.mode.Mode.{Mode}
 use Rattle.code_mode.specs.declared.payload.Payload.{Payload}
@@ -8,7 +8,6 @@ use Rattle.code_mode.specs.declared.stripe.TheConstants.{BLOB_LIMIT}
 use Rattle.code_mode.specs.VolumeShape.{VolumeShape}
 use Rattle.code_mode.proofs.Pieces.{length-first_chunks}
 use Rattle.volume_entry.specs.Reply.{Reply as ToldReply}
-use Rattle.volume_entry.specs.declared.view.View.{View}
 use Rattle.volume_world.specs.Event.{Event as ToldEvent}
 use Rattle.volume_world.specs.State.{State}
 use Rattle.volume_world.specs.declared.event.Event.{Event}
@@ -35,22 +34,17 @@ use Rattle.blob_access.specs.PutCall.{PutStage, PutNext, put_call, put_asks, put
 use Rattle.blob_access.specs.GetCall.{IsPayload}
 use Rattle.blob_access.proofs.PutLemmas.{in_first, in_second}
 use Rattle.blob_access.proofs.Later.{part_step}
-use Rattle.blob_access.proofs.LastTries.{over_answer, leads_split}
+use Rattle.blob_access.proofs.LastTries.{over_answer}
 use Rattle.blob_access.proofs.GivenBlobs.{parts_acked}
 use Rattle.object_access.specs.Pieces.{blob_count, pieces_of}
 use Rattle.object_access.specs.ObjectPut.{ObjectPutsBy}
 use Rattle.object_access.specs.RoundTrip.{AreBegunWith, PutObjectsAreBegun}
-use Rattle.volume_calls.specs.declared.fault.LogFault.{LogFault}
-use Rattle.volume_calls.specs.declared.fault.LogFault.TheVariants as log_faults
-use Rattle.volume_calls.specs.CallForm.{cut_by, EndsBy, one_event}
-use Rattle.volume_calls.specs.CutOff.{log_cut}
-use Rattle.volume_calls.specs.SingleCalls.{look_tells}
 use Rattle.volume_turns.specs.declared.command.VolumeCommand.{VolumeCommand}
 use Rattle.volume_turns.specs.declared.command.VolumeCommand.TheVariants as commands
 use Rattle.volume_turns.specs.declared.reply.VolumeReply.{VolumeReply}
 use Rattle.volume_turns.specs.declared.reply.VolumeReply.TheVariants as replies
-use Rattle.volume_turns.specs.Answers.{Replied, put_reply, put_refused, log_refused}
-use Rattle.volume_turns.specs.Turn.{TurnBy, PutTurn, PutBehind, taken_by}
+use Rattle.volume_turns.specs.Answers.{put_reply, put_refused}
+use Rattle.volume_turns.specs.Turn.{TurnBy, PutTurn}
 use Rattle.volume_turns.specs.Session.{Turn, joined, IsTurn, AreTurns, TurnsLead}
 use Rattle.volume_turns.specs.ObjectTurns.{HasPut, IsAckedIn, AreAckedIn, PutsAreEarned}
 use Rattle.volume_turns.proofs.CallCauses.{gives, going_cause}
@@ -134,30 +128,11 @@ put_was_put (Err (put_faults.Spoiled place)) e = absurd (cc e)
 put_was_put (Err put_faults.HistoryFull) e = absurd (cc e)
 put_was_put (Err put_faults.Memory) e = absurd (cc e)
 
-log_never_put : (fault : LogFault) → Ok replies.Put ≡ log_refused fault → ⊥
-log_never_put log_faults.Fault e = cc e
-log_never_put (log_faults.Spoiled place) e = cc e
-log_never_put log_faults.HistoryFull e = cc e
-log_never_put log_faults.Memory e = cc e
-
--- behind the look of such a turn all blobs are put
-pub record PutsAll (mode : Mode) (first : ℕ) (object : List ℕ) (parts : List Part) : Type 0 where
-  pub looked : List Part
-  pub rest : List Part
-  pub split : parts ≡ looked ++ rest
-  pub puts : ObjectPutsBy mode first (pieces_of object) rest (Ok tt)
-
-behind_puts : (mode : Mode) (first : ℕ) (object : List ℕ) (whether : Result Bool LogFault) (parts looked rest : List Part) → parts ≡ looked ++ rest → PutBehind mode first object whether rest (Ok replies.Put)
-    → PutsAll mode first object parts
-behind_puts mode first object (Ok true) parts looked rest split h =
-    record { looked = looked; rest = rest; split = split; puts = subst (λ (a : Result (Unit {0}) PutFault). ObjectPutsBy mode first (pieces_of object) rest a) (put_was_put h.answer h.given) h.puts }
-behind_puts mode first object (Ok false) parts looked rest split h = absurd (cc h.1)
-behind_puts mode first object (Err other) parts looked rest split h = absurd (log_never_put other h.1)
-
-pub turn_puts : (origin : Origin) (turn : Turn) (first : ℕ) (object : List ℕ) → IsTurn origin turn → HasPut turn first object → PutsAll origin.mode first object turn.parts
+-- all blobs of such a turn are put
+pub turn_puts : (origin : Origin) (turn : Turn) (first : ℕ) (object : List ℕ) → IsTurn origin turn → HasPut turn first object → ObjectPutsBy origin.mode first (pieces_of object) turn.parts (Ok tt)
 turn_puts origin turn first object own put =
     let by : PutTurn origin.mode first object turn.parts turn.result = subst (λ (c : VolumeCommand). TurnBy origin.mode c turn.parts turn.result) put.command own.plays in
-    behind_puts origin.mode first object (taken_by origin.mode by.seen) turn.parts by.looked by.rest by.split (subst (λ (r : Replied). PutBehind origin.mode first object (taken_by origin.mode by.seen) by.rest r) put.reply by.behind)
+    subst (λ (a : Result (Unit {0}) PutFault). ObjectPutsBy origin.mode first (pieces_of object) turn.parts a) (put_was_put by.answer (sym put.reply ∙ by.given)) by.puts
 
 -- ---- acknowledged ends
 
@@ -166,9 +141,7 @@ count_of_pieces object = length-first_chunks BLOB_LIMIT (blob_count (length obje
 
 turn_acked : (origin : Origin) (turn : Turn) (first : ℕ) (object : List ℕ) → IsTurn origin turn → HasPut turn first object → AreAckedIn turn.parts first (blob_count (length object))
 turn_acked origin turn first object own put k below =
-    let all = turn_puts origin turn first object own put in
-    let one = object_acked origin.mode first (pieces_of object) all.rest all.puts k (subst (λ (n : ℕ). k < n) (sym (count_of_pieces object)) below) in
-    record { accepted = one.accepted; there = subst (λ ps. IsIn (Part.Asking (events.End (first + k)) (volume_replies.Acked one.accepted)) ps) (sym all.split) (in_second _ all.looked all.rest one.there) }
+    object_acked origin.mode first (pieces_of object) turn.parts (turn_puts origin turn first object own put) k (subst (λ (n : ℕ). k < n) (sym (count_of_pieces object)) below)
 
 -- ---- ends that aren't acknowledged
 
@@ -269,51 +242,16 @@ object_unacked mode number (piece ∷ pieces) parts why reply given (inr h) =
       unacked = blob_unacked mode number (number + 0) (Plain piece) parts why reply given (subst (λ (f : PutFault). PutsBy mode number (Plain piece) parts (Err f)) same h.puts);
     }
 
--- a look ends no put
-look_unacked : (looked : List Part) (seen : Result View LogFault) (bid : ℕ) → IsRest (one_event events.Look look_tells) (Next.Go tt) looked seen → IsAckedIn looked bid → ⊥
-look_unacked looked seen bid h there = let one = rest_asks (one_event events.Look look_tells) (Next.Go tt) looked seen (events.End bid) (volume_replies.Acked there.accepted) h there.there in cc one.1
-
-look_whole : (seen : Result View LogFault) (looked : List Part) (mode : Mode) (first : ℕ) (object : List ℕ) (rest : List Part) (reply : VolumeReply) → EndsBy (one_event events.Look look_tells) tt looked seen (cut_by log_cut seen)
-    → PutBehind mode first object (taken_by mode seen) rest (Ok reply) → IsRest (one_event events.Look look_tells) (Next.Go tt) looked seen
-look_whole (Ok view) looked mode first object rest reply h b = h
-look_whole (Err log_faults.Fault) looked mode first object rest reply h b = h
-look_whole (Err (log_faults.Spoiled place)) looked mode first object rest reply h b = h
-look_whole (Err log_faults.HistoryFull) looked mode first object rest reply h b = absurd (let e : Ok reply ≡ log_refused log_faults.HistoryFull = b.1 in cc e)
-look_whole (Err log_faults.Memory) looked mode first object rest reply h b = absurd (let e : Ok reply ≡ log_refused log_faults.Memory = b.1 in cc e)
-
--- an acknowledged end stands behind the look
-acked_rest : (looked rest : List Part) (seen : Result View LogFault) (bid : ℕ) → IsRest (one_event events.Look look_tells) (Next.Go tt) looked seen → IsAckedIn (looked ++ rest) bid → IsAckedIn rest bid
-acked_rest looked rest seen bid h there = elim (in_either _ looked rest there.there) [
-  | inl i ↦ absurd (look_unacked looked seen bid h (record { accepted = there.accepted; there = i }))
-  | inr i ↦ record { accepted = there.accepted; there = i }
-]
-
 answer_puts : (mode : Mode) (first : ℕ) (object : List ℕ) (rest : List Part) (reply : VolumeReply) (answer : Result (Unit {0}) PutFault) → ObjectPutsBy mode first (pieces_of object) rest answer → Ok reply ≡ put_reply answer
     → AreAckedIn rest first (length (pieces_of object)) → reply ≡ replies.Put
 answer_puts mode first object rest reply (Ok done) h given acked = cc given
 answer_puts mode first object rest reply (Err why) h given acked = absurd (let none = object_unacked mode first (pieces_of object) rest why reply given h in none.unacked (acked none.place none.within))
 
-none_there : (first : ℕ) (object : List ℕ) (rest : List Part) → 1 ≤ length object → rest ≡ [] → AreAckedIn rest first (length (pieces_of object)) → ⊥
-none_there first object rest some empty acked =
-    let count = count_of_pieces object in
-    let below : 0 < length (pieces_of object) = omega (arith, some, count) in
-    let one = acked 0 below in
-    subst (λ ps. IsIn (Part.Asking (events.End (first + 0)) (volume_replies.Acked one.accepted)) ps) empty one.there
-
-behind_earned : (mode : Mode) (first : ℕ) (object : List ℕ) (whether : Result Bool LogFault) (rest : List Part) (reply : VolumeReply) → 1 ≤ length object → PutBehind mode first object whether rest (Ok reply)
-    → AreAckedIn rest first (length (pieces_of object)) → reply ≡ replies.Put
-behind_earned mode first object (Ok true) rest reply some h acked = answer_puts mode first object rest reply h.answer h.puts h.given acked
-behind_earned mode first object (Ok false) rest reply some h acked = absurd (none_there first object rest some h.0 acked)
-behind_earned mode first object (Err other) rest reply some h acked = absurd (none_there first object rest some h.0 acked)
-
-turn_earned : (origin : Origin) (turn : Turn) (first : ℕ) (object : List ℕ) (reply : VolumeReply) → IsTurn origin turn → turn.command ≡ commands.Put first object → 1 ≤ length object → turn.result ≡ Ok reply
+turn_earned : (origin : Origin) (turn : Turn) (first : ℕ) (object : List ℕ) (reply : VolumeReply) → IsTurn origin turn → turn.command ≡ commands.Put first object → turn.result ≡ Ok reply
     → AreAckedIn turn.parts first (blob_count (length object)) → reply ≡ replies.Put
-turn_earned origin turn first object reply own command some result acked =
+turn_earned origin turn first object reply own command result acked =
     let by : PutTurn origin.mode first object turn.parts turn.result = subst (λ (c : VolumeCommand). TurnBy origin.mode c turn.parts turn.result) command own.plays in
-    let behind = subst (λ (r : Replied). PutBehind origin.mode first object (taken_by origin.mode by.seen) by.rest r) result by.behind in
-    let whole = look_whole by.seen by.looked origin.mode first object by.rest reply by.looks behind in
-    behind_earned origin.mode first object (taken_by origin.mode by.seen) by.rest reply some behind
-    (λ k below. acked_rest by.looked by.rest by.seen (first + k) whole (subst (λ ps. IsAckedIn ps (first + k)) by.split (acked k (subst (λ (n : ℕ). k < n) (count_of_pieces object) below))))
+    answer_puts origin.mode first object turn.parts reply by.answer by.puts (sym result ∙ by.given) (λ k below. acked k (subst (λ (n : ℕ). k < n) (count_of_pieces object) below))
 
 -- ---- acknowledged ends in states
 
@@ -399,13 +337,10 @@ kept_stays origin w v parts first object h kept = record {
 }
 
 put_keeps : PutObjectsAreBegun → (origin : Origin) (w v : World) (turn : Turn) (first : ℕ) (object : List ℕ) → IsTurn origin turn → HasPut turn first object → PartsLead origin w turn.parts v → IsKept v first object
-put_keeps begun origin w v turn first object own put leads =
-    let all = turn_puts origin turn first object own put in
-    let halves = leads_split origin w v all.looked all.rest (subst (λ (ps : List Part). PartsLead origin w ps v) all.split leads) in
-    record {
-      begun = begun origin first object all.rest halves.0 v all.puts halves.2;
-      acked = λ k below. let one = turn_acked origin turn first object own put k below in acked_behind origin w v turn.parts (first + k) one.accepted one.there leads;
-    }
+put_keeps begun origin w v turn first object own put leads = record {
+  begun = begun origin first object turn.parts w v (turn_puts origin turn first object own put) leads;
+  acked = λ k below. let one = turn_acked origin turn first object own put k below in acked_behind origin w v turn.parts (first + k) one.accepted one.there leads;
+}
 
 -- what an earlier turn put is kept behind all turns
 pub kept_behind : PutObjectsAreBegun → (origin : Origin) (w v : World) (turns : List Turn) (put : Turn) (first : ℕ) (object : List ℕ) → AreTurns origin turns → IsIn put turns → HasPut put first object

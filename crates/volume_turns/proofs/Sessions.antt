@@ -3,6 +3,7 @@ use Rattle.std.proofs.Common.{◌≡◌, ℕ, zero, suc, ◌+◌, ◌-◌, ◌^�
 use Rattle.std.proofs.lemmas.List.{drop_more, drop_all, map-append}
 use Rattle.std.specs.declared.alloc.Global.{Global}
 use Rattle.volume_world.specs.declared.fault.StepFault.{StepFault}
+use Rattle.volume_world.specs.declared.fault.StepFault.TheVariants as faults
 use Rattle.volume_world.specs.declared.trace.Trace.{Trace}
 use Rattle.volume_world.specs.Run.{World}
 use Rattle.volume_world.specs.Way.{Origin, WayView}
@@ -69,6 +70,34 @@ session_further a b c turns command result h p =
     let goes = subst (λ (parts : List Part). Goes a c parts) (sym (joined_more turns turn)) (goes_on a b c (joined turns) p.parts h.goes p.goes) in
     record { each = each; goes = goes; leads = leads_further a b c turns command result h p; faults = few_faulty a c (turns ++ turn ∷ []) each goes }
 
+-- ---- a session behind another
+
+joined_both : (turns more : List Turn) → joined (turns ++ more) ≡ joined turns ++ joined more
+joined_both [] more = refl
+joined_both (turn ∷ turns) more = ap (λ parts. turn.parts ++ parts) (joined_both turns more) ∙ sym (append_assoc turn.parts (joined turns) (joined more))
+
+turns_both : (origin : Origin) (turns more : List Turn) → AreTurns origin turns → AreTurns origin more → AreTurns origin (turns ++ more)
+turns_both origin [] more h k = k
+turns_both origin (turn ∷ turns) more h k = (h.0, turns_both origin turns more h.1 k)
+
+leads_both : (origin : Origin) (w u v : World) (turns more : List Turn) → TurnsLead origin w turns u → TurnsLead origin u more v → TurnsLead origin w (turns ++ more) v
+leads_both origin w u v [] more h k = subst (λ (x : World). TurnsLead origin x more v) h k
+leads_both origin w u v (turn ∷ turns) more h k = (h.0, h.1, leads_both origin h.0 u v turns more h.2 k)
+
+leads_over : (a b c : WayView) (turns more : List Turn) → IsSessionOver a b turns → IsSessionOver b c more → a.origin.is_told ≡ true → (w : World) → a.is_at w
+    → (v : World) × TurnsLead a.origin w (turns ++ more) v × c.is_at v
+leads_over a b c turns more h k told w at =
+    let one = h.leads told w at in
+    let two = k.leads (ap (λ (o : Origin). o.is_told) h.goes.origin ∙ told) one.0 one.2 in
+    let lead = subst (λ (o : Origin). TurnsLead o one.0 more two.0) h.goes.origin two.1 in
+    (two.0, leads_both a.origin w one.0 two.0 turns more one.1 lead, two.2)
+
+pub sessions_join : (a b c : WayView) (turns more : List Turn) → IsSessionOver a b turns → IsSessionOver b c more → IsSessionOver a c (turns ++ more)
+sessions_join a b c turns more h k =
+    let each = turns_both a.origin turns more h.each (subst (λ (o : Origin). AreTurns o more) h.goes.origin k.each) in
+    let goes = subst (λ (parts : List Part). Goes a c parts) (sym (joined_both turns more)) (goes_on a b c (joined turns) (joined more) h.goes k.goes) in
+    record { each = each; goes = goes; leads = leads_over a b c turns more h k; faults = few_faulty a c (turns ++ more) each goes }
+
 -- ---- the loop
 
 -- so many commands have their turns, and replies
@@ -104,20 +133,26 @@ played_more a b c commands place replies new command reply below is more h p =
     }
 
 -- it breaks off before the first command
-pub none_played : (a : WayView) (commands : List VolumeCommand) (fault : StepFault) (result : Result (Vec VolumeReply Global) StepFault) → result ≡ Err fault → PlaysAll a a commands result
-none_played a commands fault result given =
-    subst (λ (r : Result (Vec VolumeReply Global) StepFault). PlaysAll a a commands r) (sym given) (record { turns = []; session = session_none a; answered = (commands, refl) })
+pub none_played : (a : WayView) (commands : List VolumeCommand) (result : Result (Vec VolumeReply Global) StepFault) → result ≡ Err faults.Memory → PlaysAll a a commands result
+none_played a commands result given =
+    subst (λ (r : Result (Vec VolumeReply Global) StepFault). PlaysAll a a commands r) (sym given) (record {
+      turns = [];
+      session = session_none a;
+      answered = (commands, refl);
+      full = λ e. absurd (cc e);
+    })
 
 -- .. or at a command, which may have its reply
 pub play_stops : (a b c : WayView) (commands : List VolumeCommand) (place : ℕ) (replies : List VolumeReply) (command : VolumeCommand) (reply : Replied) (fault : StepFault)
-    (result : Result (Vec VolumeReply Global) StepFault) → place < length commands → command ≡ get_or commands place command → HasPlayed a b commands place replies → Plays b c command reply → result ≡ Err fault
-    → PlaysAll a c commands result
-play_stops a b c commands place replies command reply fault result below is h p given =
+    (result : Result (Vec VolumeReply Global) StepFault) → place < length commands → command ≡ get_or commands place command → HasPlayed a b commands place replies → Plays b c command reply
+    → (fault ≡ faults.HistoryFull → reply ≡ Err faults.HistoryFull) → result ≡ Err fault → PlaysAll a c commands result
+play_stops a b c commands place replies command reply fault result below is h p cause given =
     let turn = turn_of b c command reply p in
     subst (λ (r : Result (Vec VolumeReply Global) StepFault). PlaysAll a c commands r) (sym given) (record {
       turns = h.turns ++ turn ∷ [];
       session = session_further a b c h.turns command reply h.session p;
       answered = (drop (place + 1) commands, commands_further h.turns turn commands place below is h.commanded);
+      full = λ e. p.full (cause (cc e));
     })
 
 pub all_played : (a b : WayView) (commands : List VolumeCommand) (place : ℕ) (replies : Vec VolumeReply Global) → length commands ≤ place → HasPlayed a b commands place replies.items → PlaysAll a b commands (Ok replies)
@@ -125,6 +160,7 @@ all_played a b commands place replies over h = record {
   turns = h.turns;
   session = h.session;
   answered = (sym (append-nil (commands_of h.turns)) ∙ ap (λ (cs : List VolumeCommand). commands_of h.turns ++ cs) (sym (drop_all place commands over)) ∙ h.commanded, h.replied);
+  full = λ e. absurd (cc e);
 }
 
 -- ---- what a command asks for

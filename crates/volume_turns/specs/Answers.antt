@@ -1,5 +1,6 @@
 -- What the answer of each call makes of the reply to its command. A call that was cut off has no reply.
 use Rattle.std.specs.Prelude.{ℕ, List, Result, Ok, Err}
+use Rattle.volume_entry.specs.declared.view.View.{View}
 use Rattle.volume_world.specs.declared.fault.StepFault.{StepFault}
 use Rattle.volume_world.specs.declared.fault.StepFault.TheVariants as step_faults
 use Rattle.blob_access.specs.declared.fault.PutFault.{PutFault}
@@ -82,6 +83,10 @@ log_refused log_faults.Fault = refused refusals.Fault
 log_refused (log_faults.Spoiled place) = refused (refusals.Spoiled place)
 log_refused log_faults.HistoryFull = Err step_faults.HistoryFull
 log_refused log_faults.Memory = Err step_faults.Memory
+
+abbrev pub seen_reply : Result View LogFault → Replied
+seen_reply (Ok view) = Ok (replies.Seen view)
+seen_reply (Err fault) = log_refused fault
 
 abbrev pub flush_reply : Result Flushed LogFault → Replied
 flush_reply (Ok flushed) = Ok (replies.Flushed flushed.requests flushed.answers)

@@ -1,5 +1,4 @@
 pub mod Answers
 pub mod Turn
-pub mod TurnParts
 pub mod Session
 pub mod ObjectTurns

@@ -1,5 +1,5 @@
 -- What becomes of an object that a turn put, and when a put is acknowledged.
-use Rattle.std.specs.Prelude.{ℕ, ◌≡◌, ◌+◌, ◌<◌, ◌≤◌, false, List, [], ◌++◌, length, slice_index_or, Ok}
+use Rattle.std.specs.Prelude.{ℕ, ◌≡◌, ◌+◌, ◌<◌, false, List, [], ◌++◌, length, slice_index_or, Ok}
 use Rattle.unit_id.specs.Lists.{IsIn, is_in}
 use Rattle.volume_entry.specs.declared.view.View.{View}
 use Rattle.volume_world.specs.declared.event.Event.TheVariants as events
@@ -54,7 +54,7 @@ AreAckedIn parts first count = (k : ℕ) → k < count → IsAckedIn parts (firs
 -- finds enough accepted indexes, and its time is before the lease end that the blob's begin saw.
 pub record PutsAreEarned : Type 0 where
   pub acked : (origin : Origin) (turn : Turn) (first : ℕ) (object : List ℕ) → IsTurn origin turn → HasPut turn first object → AreAckedIn turn.parts first (blob_count (length object))
-  pub put : (origin : Origin) (turn : Turn) (first : ℕ) (object : List ℕ) (reply : VolumeReply) → IsTurn origin turn → turn.command ≡ commands.Put first object → 1 ≤ length object → turn.result ≡ Ok reply
+  pub put : (origin : Origin) (turn : Turn) (first : ℕ) (object : List ℕ) (reply : VolumeReply) → IsTurn origin turn → turn.command ≡ commands.Put first object → turn.result ≡ Ok reply
       → AreAckedIn turn.parts first (blob_count (length object)) → reply ≡ replies.Put
   pub earned : (origin : Origin) (w v : World) (bid accepted : ℕ) → PartLeads origin w (Part.Asking (events.End bid) (volume_replies.Acked accepted)) v → IsEarned (shape_of origin) w.state bid accepted
 

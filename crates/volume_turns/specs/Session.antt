@@ -1,10 +1,11 @@
 -- Sessions over one volume: turns, one behind the other.
-use Rattle.std.specs.Prelude.{ℕ, ◌≡◌, ◌+◌, ◌-◌, ◌^◌, ◌≤◌, min, Bool, true, false, cond, List, [], ◌∷◌, ◌++◌, map, Result, Ok, Err, Vec}
+use Rattle.std.specs.Prelude.{ℕ, ◌≡◌, ◌+◌, ◌-◌, ◌^◌, ◌≤◌, min, Bool, true, false, cond, List, [], ◌∷◌, ◌++◌, length, map, Result, Ok, Err, Vec}
 use Rattle.std.specs.declared.alloc.Global.{Global}
 use Rattle.volume_world.specs.declared.fault.StepFault.{StepFault}
+use Rattle.volume_world.specs.declared.fault.StepFault.TheVariants.{HistoryFull}
 use Rattle.volume_world.specs.declared.trace.Trace.{Trace}
 use Rattle.volume_world.specs.Run.{World}
-use Rattle.volume_world.specs.Way.{Origin, WayView}
+use Rattle.volume_world.specs.Way.{Origin, WayView, longest_history}
 use Rattle.volume_world.specs.Course.{Part, traces_of, fault_count, Goes, PartsLead}
 use Rattle.volume_world.specs.Progress.{AllFit}
 use Rattle.volume_turns.specs.declared.command.VolumeCommand.{VolumeCommand}
@@ -102,8 +103,9 @@ pub record IsSessionOver (old new : WayView) (turns : List Turn) : Type 0 where
   pub leads : old.origin.is_told ≡ true → (w : World) → old.is_at w → (v : World) × TurnsLead old.origin w turns v × new.is_at v
   pub faults : min (old.faults + faulty_turns turns) (2 ^ 64 - 1) ≤ new.faults
 
--- the commands are played in order, each in its turn
+-- The commands are played in order, each in its turn. The history is said to be full only where it is.
 pub record PlaysAll (old new : WayView) (commands : List VolumeCommand) (result : Result (Vec VolumeReply Global) StepFault) : Type 0 where
   pub turns : List Turn
   pub session : IsSessionOver old new turns
   pub answered : AreAnswered turns commands result
+  pub full : result ≡ Err HistoryFull → longest_history ≤ length new.entries

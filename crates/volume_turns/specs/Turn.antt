@@ -1,10 +1,7 @@
 -- What one command asks of a volume, and its reply.
-use Rattle.std.specs.Prelude.{ℕ, ◌≡◌, ◌≤◌, ◌&&◌, not, nat_lt, is_none, Bool, true, false, List, [], ◌++◌, length, Option, Result, Ok, Err}
-use Rattle.std.specs.List.{count_by}
+use Rattle.std.specs.Prelude.{ℕ, ◌≡◌, ◌≤◌, true, List, [], length, Option, Result, Ok, Err}
 use Rattle.code_mode.specs.declared.mode.Mode.{Mode}
 use Rattle.code_mode.specs.declared.stripe.TheConstants.{BLOB_LIMIT}
-use Rattle.code_mode.specs.Mode.{put_quorum}
-use Rattle.volume_entry.specs.declared.view.View.{View}
 use Rattle.volume_entry.specs.Manager.{IsBid, IsDisk}
 use Rattle.volume_world.specs.declared.event.Event.TheVariants as events
 use Rattle.volume_world.specs.declared.fault.StepFault.{StepFault}
@@ -21,16 +18,14 @@ use Rattle.object_access.specs.declared.pieces.TheConstants.{OBJECT_LIMIT}
 use Rattle.object_access.specs.Pieces.{blob_count, blob_sizes, pieces_of, AreBids}
 use Rattle.object_access.specs.ObjectPut.{ObjectPutsBy}
 use Rattle.object_access.specs.ObjectGet.{ObjectGetsBy, IsObject}
-use Rattle.volume_calls.specs.declared.fault.LogFault.{LogFault}
 use Rattle.volume_calls.specs.CallForm.{cut_by, EndsBy, one_event}
 use Rattle.volume_calls.specs.CutOff.{step_cut, log_cut, restart_cut, ask_cut}
 use Rattle.volume_calls.specs.SingleCalls.{tick_tells, done_tells, restart_tells, manager_tells, look_tells, ask_tells}
 use Rattle.volume_calls.specs.Flushes.{none_yet, flush_call}
 use Rattle.volume_turns.specs.declared.command.VolumeCommand.{VolumeCommand}
 use Rattle.volume_turns.specs.declared.command.VolumeCommand.TheVariants as commands
-use Rattle.volume_turns.specs.declared.reply.VolumeRefusal.TheVariants as refusals
 use Rattle.volume_turns.specs.declared.reply.VolumeReply.TheVariants as replies
-use Rattle.volume_turns.specs.Answers.{Replied, refused, put_reply, got_reply, fetched_reply, ask_reply, tick_reply, broken_reply, planned_reply, log_refused, flush_reply, restart_reply, manager_reply}
+use Rattle.volume_turns.specs.Answers.{Replied, put_reply, got_reply, fetched_reply, ask_reply, tick_reply, broken_reply, planned_reply, seen_reply, flush_reply, restart_reply, manager_reply}
 
 -- an object, or a blob, of a size that there can be, under numbers of blobs; disks are the volume's
 abbrev pub FitsCommand : Origin → VolumeCommand → Type 0
@@ -61,38 +56,15 @@ pub record FetchTurn (mode : Mode) (bid size : ℕ) (parts : List Part) (result 
   pub gets : GetsBy (record { mode = mode; bid = bid; size = size }) parts answer
   pub given : result ≡ fetched_reply answer
 
--- a volume that is seen so takes puts: it isn't locked, and enough of its units for a put are on unbroken disks
-abbrev pub takes_puts : Mode → View → Bool
-takes_puts mode view = is_none view.held && not (nat_lt (count_by (λ home. not home.broken) view.units) (put_quorum mode))
-
--- whether it does, where a look showed it
-abbrev pub taken_by : Mode → Result View LogFault → Result Bool LogFault
-taken_by mode (Ok view) = Ok (takes_puts mode view)
-taken_by mode (Err fault) = Err fault
-
 -- the puts of an object's blobs, whose answer makes the reply
-pub record PutsObject (mode : Mode) (first : ℕ) (object : List ℕ) (parts : List Part) (result : Replied) : Type 0 where
+pub record PutTurn (mode : Mode) (first : ℕ) (object : List ℕ) (parts : List Part) (result : Replied) : Type 0 where
   pub answer : Result (Unit {0}) PutFault
   pub puts : ObjectPutsBy mode first (pieces_of object) parts answer
   pub given : result ≡ put_reply answer
 
--- behind the look: the object is put where the volume takes it, and nothing is asked where it doesn't
-abbrev pub PutBehind : Mode → ℕ → List ℕ → Result Bool LogFault → List Part → Replied → Type 0
-PutBehind mode first object (Ok true) parts result = PutsObject mode first object parts result
-PutBehind mode first object (Ok false) parts result = (parts ≡ []) × (result ≡ refused refusals.NoVolume)
-PutBehind mode first object (Err fault) parts result = (parts ≡ []) × (result ≡ log_refused fault)
-
--- a look, and what is behind it
-pub record PutTurn (mode : Mode) (first : ℕ) (object : List ℕ) (parts : List Part) (result : Replied) : Type 0 where
-  pub looked : List Part
-  pub rest : List Part
-  pub split : parts ≡ looked ++ rest
-  pub seen : Result View LogFault
-  pub looks : EndsBy (one_event events.Look look_tells) tt looked seen (cut_by log_cut seen)
-  pub behind : PutBehind mode first object (taken_by mode seen) rest result
-
 -- What a command asks of a volume of this mode in a stretch, and its reply. Where there is none, it breaks off there.
 abbrev pub TurnBy : Mode → VolumeCommand → List Part → Replied → Type 0
+TurnBy mode commands.Look parts result = TurnOf (one_event events.Look look_tells) tt log_cut seen_reply parts result
 TurnBy mode (commands.Put first object) parts result = PutTurn mode first object parts result
 TurnBy mode (commands.Get first size) parts result = GetTurn mode first size parts result
 TurnBy mode (commands.Fetch bid size) parts result = FetchTurn mode bid size parts result

@@ -1,16 +1,17 @@
 //! What the answers of calls make of a reply.
 
 ghost use Rattle.std.specs.Prelude.{◌≡◌};
-ghost use Rattle.volume_turns.specs.Answers.{put_reply, got_reply, fetched_reply, ask_reply, tick_reply, broken_reply, planned_reply, flush_reply, restart_reply, manager_reply, refused, put_refused, get_refused, log_refused};
+ghost use Rattle.volume_turns.specs.Answers.{put_reply, got_reply, fetched_reply, ask_reply, tick_reply, broken_reply, planned_reply, seen_reply, flush_reply, restart_reply, manager_reply, refused, put_refused, get_refused, log_refused};
 
 use crate::{VolumeRefusal, VolumeReply};
 use blob_access::{GetFault, PutFault};
 use unit_id::Bytes;
 use volume_calls::{AskFault, Flushed, LogFault, RestartFault};
+use volume_entry::View;
 use volume_world::StepFault;
 
 /// The reply of a command that isn't done.
-pub(crate) fn refused(refusal: VolumeRefusal) -> Result<VolumeReply, StepFault>
+fn refused(refusal: VolumeRefusal) -> Result<VolumeReply, StepFault>
     ensures { result ≡ refused refusal }
 {
     Ok(VolumeReply::Refused { refusal })
@@ -118,7 +119,7 @@ pub(crate) fn planned_reply(answer: Result<(), StepFault>) -> Result<VolumeReply
 }
 
 /// The reply of a command that ends with a fault of the manager's log.
-pub(crate) fn log_refused(fault: LogFault) -> Result<VolumeReply, StepFault>
+fn log_refused(fault: LogFault) -> Result<VolumeReply, StepFault>
     ensures { result ≡ log_refused fault }
 {
     match fault {
@@ -126,6 +127,16 @@ pub(crate) fn log_refused(fault: LogFault) -> Result<VolumeReply, StepFault>
         LogFault::Spoiled { place } => refused(VolumeRefusal::Spoiled { place }),
         LogFault::HistoryFull => Err(StepFault::HistoryFull),
         LogFault::Memory => Err(StepFault::Memory),
+    }
+}
+
+/// What a look shows.
+pub(crate) fn seen_reply(answer: Result<View, LogFault>) -> Result<VolumeReply, StepFault>
+    ensures { result ≡ seen_reply answer }
+{
+    match answer {
+        Ok(view) => Ok(VolumeReply::Seen { view }),
+        Err(fault) => log_refused(fault),
     }
 }
 

@@ -7,6 +7,8 @@ use unit_id::Bytes;
 /// ticks are the clock's.
 #[derive(Drop)]
 pub enum VolumeCommand {
+    /// It is looked at the volume.
+    Look,
     /// An object of 1 to `OBJECT_LIMIT` bytes is put, the first blob of it under this number.
     Put { first: u64, object: Bytes },
     /// An object of so many bytes is got, the first blob of which has this number.

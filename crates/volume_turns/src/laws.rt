@@ -24,8 +24,8 @@ pub fn puts_are_earned()
     ensures { PutsAreEarned }
 {}
 
-/// No later get of an object that was put shows other bytes, and no later fetch of one of its blobs shows others than that
-/// blob's.
+/// Where the turns lead from state to state, as they do where files tell what they hold, no later get of an object that was put
+/// shows other bytes, and no later fetch of one of its blobs shows others than that blob's.
 pub fn puts_are_shown()
     ensures { PutsAreShown }
 {
@@ -33,8 +33,9 @@ pub fn puts_are_shown()
     objects_are_got_back();
 }
 
-/// A later get of an object that was put has the put's bytes: where its blobs aren't asked to be deleted, no read of them
-/// fails, few units are on broken disks, each look is heard, and the units don't move at every try.
+/// Where the turns lead from state to state, a later get of an object that was put has the put's bytes, unless it breaks off: if
+/// its blobs aren't asked to be deleted, no read of them fails, few units are on broken disks, each look is heard, and the units
+/// don't move at every try.
 pub fn put_objects_are_got()
     ensures { PutObjectsAreGot }
 {

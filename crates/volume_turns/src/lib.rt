@@ -3,7 +3,8 @@
 //! `play` plays one command: what it asks of the volume, and which reply that decides, stands in `specs/Turn`, by the relations
 //! of the calls below. `play_all` plays commands in order, and what the way then saw is a session of turns, by
 //! `specs/Session`: each entry stands in just one turn. Of every session the laws in `laws` hold, on faults, on
-//! acknowledgements, and on objects that a turn put and later turns get, by `specs/ObjectTurns`.
+//! acknowledgements, and, where files tell what they hold, on objects that a turn put and later turns get, by
+//! `specs/ObjectTurns`.
 #![tactic(auto)]
 
 mod answering;

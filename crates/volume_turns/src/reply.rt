@@ -1,12 +1,11 @@
 //! What one volume replies to a command.
 
 use unit_id::Bytes;
+use volume_entry::View;
 
 /// Why a command isn't done. The first reason decides.
 #[derive(Clone, Copy, Debug, PartialEq, Eq)]
 pub enum VolumeRefusal {
-    /// The volume takes no puts: it is locked, or too few of its units are on unbroken disks.
-    NoVolume,
     /// A task has locked the volume.
     Locked { task: u64 },
     /// The lease that the put saw ended at this time, before the put did.
@@ -36,6 +35,8 @@ pub enum VolumeRefusal {
 /// The reply to a command.
 #[derive(Drop)]
 pub enum VolumeReply {
+    /// The volume as the look shows it.
+    Seen { view: View },
     /// All blobs of the object are acknowledged.
     Put,
     /// The bytes of the object.

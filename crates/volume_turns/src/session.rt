@@ -15,7 +15,8 @@ use volume_world::{Port, StepFault};
 ///
 /// # Errors
 ///
-/// The fault of the first command that breaks off, and none behind it is played; or `Memory` where a reply has no room.
+/// The fault of the first command that breaks off, and none behind it is played; or `Memory` where a reply has no room. So
+/// `HistoryFull` comes only where the history is full.
 pub fn play_all<P: Port>(
     alloc: Global,
     port: &mut P,

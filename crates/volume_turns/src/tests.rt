@@ -6,7 +6,6 @@ ghost use Rattle.unit_id.specs.declared.request.Request.TheVariants as requests;
 ghost use Rattle.volume_turns.specs.Session.{AllFitCommands};
 ghost use Rattle.volume_turns.specs.Turn.{FitsCommand};
 
-use crate::turning::takes_puts;
 use crate::{VolumeCommand, VolumeRefusal, VolumeReply, play, play_all};
 use blob_node::Fate;
 use code_mode::{Mode, Payload};
@@ -15,8 +14,8 @@ use object_access::OBJECT_LIMIT;
 use rs_code::Coder;
 use std::alloc::Global;
 use std::test::Fail;
-use unit_id::{Answer, Bytes, Home, Homes, Moves, Request, UnitName};
-use volume_entry::{LockView, View};
+use unit_id::{Answer, Bytes, Home, Homes, Request, UnitName};
+use volume_entry::View;
 use volume_world::{
     Event, Port, Reply, StepFault, Trace, TraceAnswer, TraceEvent, TraceReply, TraceRequest,
 };
@@ -327,6 +326,7 @@ enum Outcome {
     SameBytes,
     OtherBytes,
     Asked,
+    Seen(u64),
     Ticked(u64),
     Broken,
     Planned,
@@ -341,6 +341,7 @@ enum Outcome {
 /// What a reply says, its bytes compared with these.
 fn outcome_of(reply: VolumeReply, bytes: &[u8]) -> Outcome {
     match reply {
+        VolumeReply::Seen { view } => Outcome::Seen(view.lease),
         VolumeReply::Put => Outcome::Put,
         VolumeReply::Got { bytes: got } => same(&got, bytes),
         VolumeReply::Fetched { bytes: got } => same(&got, bytes),
@@ -441,8 +442,9 @@ fn once(alloc: Global, command: VolumeCommand) -> Outcome
     played(alloc, &mut stand_in(alloc, 0), &command, &[])
 }
 
-fn ticks(alloc: Global) -> (Outcome, Outcome, Outcome) {
+fn of_the_volume(alloc: Global) -> (Outcome, Outcome, Outcome, Outcome) {
     (
+        once(alloc, VolumeCommand::Look),
         once(alloc, VolumeCommand::Tick { by: 3 }),
         once(alloc, VolumeCommand::Flush),
         once(alloc, VolumeCommand::RestartManager),
@@ -469,45 +471,6 @@ fn of_a_blob(alloc: Global) -> (Outcome, Outcome) {
     )
 }
 
-/// Whether a volume whose disks up to this one are broken takes puts, under a lock or not.
-fn is_taking(broken: u32, locked: bool) -> bool {
-    let mut units = Homes::empty();
-    for index in 0..6 {
-        let unit = UnitName {
-            vid: 1,
-            index,
-            epoch: 1,
-        };
-        let disk = u32::from(index) + 1;
-        let home = Home {
-            unit,
-            disk,
-            broken: disk <= broken,
-        };
-        if units.len() < 27 {
-            units.push(home);
-        }
-    }
-    let held = if locked { Some(lock()) } else { None };
-    let view = View {
-        now: 0,
-        version: 1,
-        lease: 10,
-        held,
-        units,
-    };
-    takes_puts(Mode::Ec3P3, &view)
-}
-
-fn lock() -> LockView {
-    LockView {
-        task: 1,
-        lock: 1,
-        moves: Moves::empty(),
-        swapped: false,
-    }
-}
-
 /// How many replies these commands have, and how many entries they add.
 fn counted(alloc: Global, commands: &[VolumeCommand]) -> (usize, usize)
     requires { AllFitCommands stand_origin commands.now }
@@ -525,7 +488,7 @@ fn counted(alloc: Global, commands: &[VolumeCommand]) -> (usize, usize)
 #[test]
 fn objects_come_back(rt: HostRuntime) {
     let alloc = rt.alloc();
-    let table = [(1, 10, 14), (4_194_304, 10, 14), (4_194_305, 19, 27)];
+    let table = [(1, 9, 13), (4_194_304, 9, 13), (4_194_305, 18, 26)];
     for (size, put, got) in table {
         assert_eq!(rt;
             put_and_got(alloc, size, 0),
@@ -540,8 +503,8 @@ fn the_first_refused_blob_decides(rt: HostRuntime) {
     let alloc = rt.alloc();
     let begun = Outcome::Refused(VolumeRefusal::Begun);
     let short = Outcome::Refused(VolumeRefusal::Short { live: 0 });
-    assert_eq!(rt; put_and_got(alloc, 4_194_305, 2), (begun, 12, short, 24));
-    assert_eq!(rt; put_and_got(alloc, 4_194_305, 1), (begun, 3, short, 11));
+    assert_eq!(rt; put_and_got(alloc, 4_194_305, 2), (begun, 11, short, 23));
+    assert_eq!(rt; put_and_got(alloc, 4_194_305, 1), (begun, 2, short, 10));
 }
 
 #[test]
@@ -551,8 +514,9 @@ fn small_commands(rt: HostRuntime) {
     let unbegun = Outcome::Refused(VolumeRefusal::NotBegun);
     let short = Outcome::Refused(VolumeRefusal::Short { live: 0 });
     assert_eq!(rt;
-        ticks(alloc),
+        of_the_volume(alloc),
         (
+            Outcome::Seen(10),
             Outcome::Ticked(7),
             Outcome::Flushed(0),
             Outcome::RestartedManager
@@ -563,19 +527,6 @@ fn small_commands(rt: HostRuntime) {
         (Outcome::Broken, Outcome::Planned, spoiled)
     );
     assert_eq!(rt; of_a_blob(alloc), (unbegun, short));
-}
-
-#[test]
-fn volumes_that_take_puts(rt: HostRuntime) {
-    let table = [
-        (0, false, true),
-        (1, false, true),
-        (2, false, false),
-        (0, true, false),
-    ];
-    for (broken, locked, takes) in table {
-        assert_eq!(rt; is_taking(broken, locked), takes, "at {broken}");
-    }
 }
 
 #[test]

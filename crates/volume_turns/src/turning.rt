@@ -1,7 +1,6 @@
 //! One command over a way.
 
-ghost use Rattle.std.specs.Prelude.{◌≡◌, ◌≤◌, not, length};
-ghost use Rattle.std.specs.List.{count_by};
+ghost use Rattle.std.specs.Prelude.{◌≡◌, ◌≤◌, length};
 ghost use Rattle.rs_code.specs.Shape.{shape};
 ghost use Rattle.code_mode.specs.declared.stripe.TheConstants.{BLOB_LIMIT};
 ghost use Rattle.volume_entry.specs.Manager.{IsBid, IsDisk};
@@ -10,55 +9,25 @@ ghost use Rattle.blob_access.specs.Coding.{coder_shape};
 ghost use Rattle.object_access.specs.declared.pieces.TheConstants.{OBJECT_LIMIT};
 ghost use Rattle.object_access.specs.Pieces.{blob_count, AreBids};
 ghost use Rattle.volume_turns.specs.declared.command.VolumeCommand.TheVariants as commands;
-ghost use Rattle.volume_turns.specs.Turn.{takes_puts, FitsCommand, Plays};
-ghost use Rattle.volume_turns.specs.TurnParts.{LooksWhetherTaken};
+ghost use Rattle.volume_turns.specs.Turn.{FitsCommand, Plays};
 
 use crate::answering::{
-    ask_reply, broken_reply, fetched_reply, flush_reply, got_reply, log_refused, manager_reply,
-    planned_reply, put_reply, refused, restart_reply, tick_reply,
+    ask_reply, broken_reply, fetched_reply, flush_reply, got_reply, manager_reply, planned_reply,
+    put_reply, restart_reply, seen_reply, tick_reply,
 };
-use crate::{VolumeCommand, VolumeRefusal, VolumeReply};
+use crate::{VolumeCommand, VolumeReply};
 use blob_access::get;
 use blob_node::Fate;
-use code_mode::Mode;
 use object_access::{get_object, put_object};
 use rs_code::Coder;
 use std::alloc::Global;
-use unit_id::Home;
-use volume_calls::{LogFault, ask, break_disk, flush, look, plan, restart, restart_manager, tick};
-use volume_entry::View;
+use volume_calls::{ask, break_disk, flush, look, plan, restart, restart_manager, tick};
 use volume_world::{Port, StepFault};
 
-/// How many of these units are on unbroken disks.
-fn whole_units(units: &[Home]) -> usize
-    ensures { result ≡ count_by (λ home. not home.broken) units.now }
+fn play_look<P: Port>(port: &mut P) -> Result<VolumeReply, StepFault>
+    ensures { Plays (P.seen port.old) (P.seen port.new) commands.Look result }
 {
-    let mut whole = 0;
-    for home in units {
-        if !home.broken {
-            whole += 1;
-        }
-    }
-    whole
-}
-
-/// Whether a volume of this mode that is seen so takes puts: it isn't locked, and at least as many of its units as must
-/// accept a put are on unbroken disks.
-pub(crate) fn takes_puts(mode: Mode, view: &View) -> bool
-    ensures { result ≡ takes_puts mode view.entry.now }
-{
-    view.held.is_none() && whole_units(view.units.as_slice()) >= mode.quorum() as usize
-}
-
-/// Looks whether the volume takes puts.
-fn is_taking<P: Port>(port: &mut P) -> Result<bool, LogFault>
-    ensures { LooksWhetherTaken (P.seen port.old) (P.seen port.new) result }
-{
-    let mode = port.mode();
-    match look(port) {
-        Ok(view) => Ok(takes_puts(mode, &view)),
-        Err(fault) => Err(fault),
-    }
+    seen_reply(look(port))
 }
 
 fn play_put<P: Port>(
@@ -74,11 +43,7 @@ fn play_put<P: Port>(
     ensures plays { Plays (P.seen port.old) (P.seen port.new) (commands.Put first object.now) result }
     ensures shape { shape coder.new ≡ shape coder.old }
 {
-    match is_taking(port) {
-        Ok(true) => put_reply(put_object(alloc, port, coder, first, object)),
-        Ok(false) => refused(VolumeRefusal::NoVolume),
-        Err(fault) => log_refused(fault),
-    }
+    put_reply(put_object(alloc, port, coder, first, object))
 }
 
 fn play_get<P: Port>(
@@ -182,6 +147,7 @@ pub fn play<P: Port>(
     ensures shape { shape coder.new ≡ shape coder.old }
 {
     match command {
+        VolumeCommand::Look => play_look(port),
         VolumeCommand::Put { first, object } => {
             play_put(alloc, port, coder, *first, object.as_slice())
         }

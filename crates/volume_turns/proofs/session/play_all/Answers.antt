@@ -1,4 +1,4 @@
-use Rattle.std.proofs.Common.{◌≤◌, length, refl, sym, ◌∙◌, ap, rules, arith}
+use Rattle.std.proofs.Common.{◌≤◌, length, Err, refl, sym, ◌∙◌, ap, rules, arith}
 use Rattle.volume_world.specs.declared.fault.StepFault.TheVariants as faults
 use Rattle.volume_world.specs.Way.{Origin}
 use Rattle.blob_access.specs.Coding.{coder_shape}
@@ -6,7 +6,7 @@ use Rattle.volume_turns.proofs.Sessions.{played_none, played_more, none_played, 
 use Rattle.volume_turns.proofs.session.play_all.Goals as goal
 
 pub returns-in_err-replies-clause-plays : goal.returns-in_err-replies-clause-plays
-returns-in_err-replies-clause-plays g c = none_played _ c.args.commands.now faults.Memory c.from_residual.result (search rules)
+returns-in_err-replies-clause-plays g c = none_played _ c.args.commands.now c.from_residual.result (search rules)
 
 pub turns-init : goal.turns-init
 turns-init g c = record { coder = refl; gone = played_none _ c.args.commands.now c.in_ok-replies.replies.items c.in_ok-replies.ensures.items }
@@ -23,7 +23,7 @@ play-requires-clause-command g c =
 pub returns-in_err-reply-clause-plays : goal.returns-in_err-reply-clause-plays
 returns-in_err-reply-clause-plays g c =
     play_stops _ _ _ c.args.commands.now c.turns.command-index c.turns.replies.items c.command-item.result c.play.result c.in_err-reply.field-0.0 c.from_residual-in_err-reply.result c.turns-test.true c.command-item.is
-    c.turns.invariant.gone c.play.ensures.plays (search rules)
+    c.turns.invariant.gone c.play.ensures.plays (λ e. c.in_err-reply.was ∙ ap Err e) (search rules)
 
 pub returns-in_err-reply-clause-shape : goal.returns-in_err-reply-clause-shape
 returns-in_err-reply-clause-shape g c = c.play.ensures.shape ∙ c.turns.invariant.coder
@@ -31,7 +31,7 @@ returns-in_err-reply-clause-shape g c = c.play.ensures.shape ∙ c.turns.invaria
 pub returns-in_err-push-clause-plays : goal.returns-in_err-push-clause-plays
 returns-in_err-push-clause-plays g c =
     play_stops _ _ _ c.args.commands.now c.turns.command-index c.turns.replies.items c.command-item.result c.play.result faults.Memory c.from_residual-in_err-push.result c.turns-test.true c.command-item.is
-    c.turns.invariant.gone c.play.ensures.plays (search rules)
+    c.turns.invariant.gone c.play.ensures.plays (λ e. absurd (cc e)) (search rules)
 
 pub returns-in_err-push-clause-shape : goal.returns-in_err-push-clause-shape
 returns-in_err-push-clause-shape g c = c.play.ensures.shape ∙ c.turns.invariant.coder
