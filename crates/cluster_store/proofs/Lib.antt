@@ -1,0 +1,16 @@
+pub mod Lists
+pub mod Lookups
+pub mod Plans
+pub mod OneTurn
+pub mod Stores
+pub mod Fits
+pub mod Scripts
+pub mod Puts
+pub mod Names
+pub mod Integrity
+pub mod Shelves
+pub mod Playing
+pub mod Each
+pub mod Done
+pub mod Broken
+pub mod Made

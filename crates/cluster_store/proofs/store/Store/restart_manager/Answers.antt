@@ -1,0 +1,24 @@
+use Rattle.std.proofs.Common.{rules, ◌≡◌, Err}
+use Rattle.cluster_admin.specs.Inside.{state_of}
+use Rattle.cluster_store.specs.Store.{over}
+use Rattle.volume_turns.specs.declared.command.VolumeCommand.TheVariants as turns
+use Rattle.cluster_store.specs.declared.reply.Reply.TheVariants as replies
+use Rattle.cluster_store.proofs.Done.{each_done, each_off}
+use Rattle.cluster_store.proofs.store.Store.restart_manager.Goals as goal
+
+pub ask_each-requires-clause-fits : goal.ask_each-requires-clause-fits
+ask_each-requires-clause-fits g c = λ place opened there. tt
+
+pub returns-in_err-first : goal.returns-in_err-first
+returns-in_err-first g c =
+    let is : c.from_residual.result ≡ Err c.in_err-first.field-0.0 = search rules in
+    record {
+      played = each_off g.F.Disk.Shelf.seen g.F.Disk.File.Extent.seen (over (state_of c.args.self.now.admin) c.args.self.now.volumes.items) (over (state_of c.ask_each.new.self.admin) c.ask_each.new.self.volumes.items) turns.RestartManager replies.RestartedManager c.ask_each.result c.in_err-first.field-0.0 c.from_residual.result
+          c.in_err-first.was is c.ask_each.ensures.played;
+    }
+
+pub returns : goal.returns
+returns g c = record {
+  played = each_done g.F.Disk.Shelf.seen g.F.Disk.File.Extent.seen (over (state_of c.args.self.now.admin) c.args.self.now.volumes.items) (over (state_of c.ask_each.new.self.admin) c.ask_each.new.self.volumes.items) turns.RestartManager replies.RestartedManager c.unless_refused.result c.ask_each.result
+      c.in_ok-first.first c.in_ok-first.was c.unless_refused.ensures c.ask_each.ensures.played;
+}
