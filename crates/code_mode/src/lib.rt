@@ -11,8 +11,6 @@
 mod mode;
 mod payload;
 mod stripe;
-#[cfg(test)]
-mod tests;
 
 pub use mode::{Mode, mode_numbers, mode_shapes};
 pub use payload::Payload;

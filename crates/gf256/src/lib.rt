@@ -22,6 +22,3 @@ pub use multiply::{mul, power};
 pub use outputs::combine;
 pub use row::FactorRow;
 pub use scale::scale_add;
-
-#[cfg(test)]
-mod tests;

@@ -20,6 +20,3 @@ mod weighing;
 pub use coder::{CodeFault, Coder};
 pub use row_cache::{RowCache, RowMaker};
 pub use shards::{ShardFault, Shards};
-
-#[cfg(test)]
-mod tests;

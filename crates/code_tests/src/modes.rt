@@ -2,7 +2,10 @@
 //!
 //! A helper gives the first row of its table that isn't met, or tells whether one row is.
 
-use super::*;
+use code_mode::{
+    BLOB_LIMIT, Mode, Payload, any_shards_give_the_blob, cut, cut_shards_join, hold, join,
+    mode_numbers, mode_shapes,
+};
 use disk_base::NoMemory;
 use rs_code::Shards;
 use std::alloc::{AllocError, Global};

@@ -2,8 +2,8 @@ ghost use Rattle.std.specs.Prelude.{◌≡◌, ◌+◌, ◌≤◌, length, IfOk}
 ghost use Rattle.rs_code.specs.RowCache.{AllFit};
 ghost use Rattle.rs_code.specs.Shape.{shape};
 
-use super::*;
 use disk_base::NoMemory;
+use rs_code::{CodeFault, Coder, RowCache, RowMaker, ShardFault, Shards, laws};
 use std::alloc::Global;
 use std::test::Fail;
 use unit_id::Bytes;

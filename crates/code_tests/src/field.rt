@@ -1,6 +1,6 @@
 ghost use Rattle.std.specs.Prelude.{◌≡◌, ◌≤◌, All, IfOk, length};
 
-use super::*;
+use gf256::{FactorRow, combine, inverse, laws, mul, power, scale_add};
 use std::alloc::{AllocError, Global};
 use std::test::Fail;
 
