@@ -19,8 +19,6 @@ mod laws;
 mod log;
 mod record;
 mod start;
-#[cfg(test)]
-mod tests;
 
 pub use fault::LogFault;
 pub use laws::{nothing_counts_behind_a_closed_gate, the_gate_alone_adds_a_body};

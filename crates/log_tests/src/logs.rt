@@ -2,10 +2,10 @@
 
 ghost use Rattle.std.specs.Prelude.{◌≤◌, length};
 
-use crate::{
+use disk_base::{Extent, MemFile};
+use gate_log::{
     Cursor, GateLog, LogFault, nothing_counts_behind_a_closed_gate, the_gate_alone_adds_a_body,
 };
-use disk_base::{Extent, MemFile};
 use std::alloc::Global;
 use std::test::Fail;
 
