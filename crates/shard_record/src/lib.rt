@@ -17,8 +17,6 @@ mod laws;
 mod reading;
 mod record;
 mod tables;
-#[cfg(test)]
-mod tests;
 mod writing;
 
 pub use crc::crc32;

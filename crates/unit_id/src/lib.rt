@@ -19,8 +19,6 @@ mod moves;
 mod request;
 mod targets;
 mod task;
-#[cfg(test)]
-mod tests;
 mod unit_name;
 
 pub use answer::Answer;

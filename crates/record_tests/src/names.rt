@@ -1,10 +1,10 @@
 //! Worked values of names and lists.
 
-use crate::{
-    Bids, Bytes, Home, Homes, Kind, Move, Moves, Target, Targets, Task, UnitFault, UnitName,
-};
 use std::alloc::{AllocError, Global};
 use std::test::Fail;
+use unit_id::{
+    Bids, Bytes, Home, Homes, Kind, Move, Moves, Target, Targets, Task, UnitFault, UnitName,
+};
 
 /// A volume, an index and an epoch, the word that they pack into, and the next epoch, or 0 where there is none.
 type Row = (u32, u8, u32, u64, u32);

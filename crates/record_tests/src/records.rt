@@ -5,7 +5,7 @@
 ghost use Rattle.std.specs.Prelude.{◌≤◌, length};
 ghost use Rattle.shard_record.specs.Spelling.{HasSizes};
 
-use crate::{RecordFault, ShardRecord, crc32, read, write};
+use shard_record::{RecordFault, ShardRecord, crc32, read, write};
 use std::alloc::Global;
 use unit_id::{Bytes, UnitName};
 
@@ -119,9 +119,20 @@ fn is_written(alloc: Global, item: &ShardRecord, spelling: &[u8]) -> bool
     }
 }
 
+/// The kind of a record, and the number of what it is about.
+fn kind_and_number(item: &ShardRecord) -> (u8, u64) {
+    match item {
+        ShardRecord::Shard { bid, .. } => (1, *bid),
+        ShardRecord::Mark { bid, .. } => (2, *bid),
+        ShardRecord::Free { bid, .. } => (3, *bid),
+        ShardRecord::Fence { lock, .. } => (4, *lock),
+        ShardRecord::Release { .. } => (5, 0),
+    }
+}
+
 /// Whether a record has the kind, the number and the unit of another.
 fn is_like(item: &ShardRecord, other: &ShardRecord) -> bool {
-    item.kind() == other.kind() && item.number() == other.number() && item.unit() == other.unit()
+    kind_and_number(item) == kind_and_number(other) && item.unit() == other.unit()
 }
 
 /// Whether these bytes are read as a record like this one, which is written so again.
