@@ -18,16 +18,8 @@ mod laws;
 mod line_run;
 mod print;
 mod read;
-#[cfg(test)]
-mod reading_tests;
 mod reply;
-#[cfg(test)]
-mod reply_tests;
 mod root;
-#[cfg(test)]
-mod root_tests;
-#[cfg(test)]
-mod run_tests;
 mod script_run;
 mod session;
 mod store;

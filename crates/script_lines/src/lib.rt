@@ -8,7 +8,5 @@
 #![tactic(auto)]
 
 mod feed;
-#[cfg(test)]
-mod tests;
 
 pub use feed::{Feed, LineBuffer, LineFault, lines_come_one_by_one};

@@ -5,9 +5,9 @@
 ghost use Rattle.std.specs.Prelude.{None, refl, true, false};
 ghost use Rattle.disk_base.specs.Faults.{is_quiet, quiet_is_zero};
 
-use crate::{Outcome, run};
 use code_mode::Payload;
 use disk_base::{Failed, Farm, MemFarm, MemSink, MemSource, Sink, Source};
+use node_runner::{Outcome, run};
 use std::alloc::{AllocError, Global};
 use std::cell::Cell;
 use std::test::Fail;

@@ -3,8 +3,8 @@
 ghost use Rattle.std.specs.Prelude.{Some};
 ghost use Rattle.disk_base.specs.Faults.{is_quiet, quiet_is_zero};
 
-use crate::{Feed, LineFault, lines_come_one_by_one};
 use disk_base::{Failed, MemSource, Source};
+use script_lines::{Feed, LineFault, lines_come_one_by_one};
 use std::alloc::{AllocError, Global};
 use std::test::Fail;
 use unit_id::Bytes;

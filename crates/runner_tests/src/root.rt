@@ -1,6 +1,6 @@
 //! Runs over roots that are empty, that fail, and that have files.
 
-use crate::run_tests::{Numbers, run_over};
+use crate::runs::{Numbers, run_over};
 use disk_base::{Farm, MemFarm, MemShelf, MemSink, MemSource, Shelf, Source};
 use std::alloc::{AllocError, Global};
 use std::test::Fail;

@@ -1,6 +1,6 @@
 //! Printed replies, sessions and laws, against examples.
 
-use crate::{
+use node_runner::{
     Body, Command, LineReply, Lost, Past, Pasts, Refusal, Said, Saids, Spot, Spots,
     commands_decide_the_session, get_shows_what_was_put, print_reply, put_enters_a_new_name,
 };

@@ -2,7 +2,7 @@
 //!
 //! A helper gives the first line of its table that isn't read so.
 
-use crate::{Body, Command, CommandFault, read_command};
+use node_runner::{Body, Command, CommandFault, read_command};
 use std::alloc::{AllocError, Global};
 use std::test::Fail;
 
